@@ -1,0 +1,88 @@
+// What the words of a command line ask for.
+ghost use mathlib.Core.Path.{_≡_};
+ghost use mathlib.Core.List.{map};
+ghost use Rattle.std.specs.Of.Vec.{vec-items};
+ghost use Rattle.std.specs.Of.String.{string-bytes};
+ghost use Rattle.std.specs.Vec.{made};
+ghost use Rattle.marker.specs.Words.{kindOf};
+use crate::atom::atom_of;
+use crate::failure::Failure;
+use crate::failure::FailureFromAllocError as _;
+use labels::Kind;
+use std::alloc::Global;
+
+// What is done with a file.
+#[derive(Drop)]
+pub enum Command {
+    Check,
+    Run(Vec<u8>),
+}
+
+#[derive(Drop)]
+pub struct Request {
+    pub kind: Kind,
+    pub command: Command,
+    pub file: String,
+}
+
+// The kind of label that a word numbers, if it does.
+fn kind_of(word: &str) -> Option<Kind>
+    ensures { λ r. ⌜ r ≡ kindOf (now (word .entry)) ⌝ }
+{
+    if word == "1" {
+        Some(Kind::Bare)
+    } else if word == "2" {
+        Some(Kind::Measured)
+    } else {
+        None
+    }
+}
+
+// The kind that the words begin with by `--kind`, if they do, and the words behind it.
+fn kind_option(words: &[String]) -> Result<(Option<Kind>, &[String]), Failure> {
+    match words.split_first() {
+        Some((option, rest)) if option.as_str() == "--kind" => {
+            let Some((number, rest)) = rest.split_first() else {
+                return Err(Failure::Usage);
+            };
+            match kind_of(number.as_str()) {
+                Some(kind) => Ok((Some(kind), rest)),
+                None => Err(Failure::Usage),
+            }
+        }
+        _ => Ok((None, words)),
+    }
+}
+
+// The atoms that the words write.
+fn atoms_of(heap: Global, words: &[String]) -> Result<Vec<u8>, Failure> {
+    let mut atoms = Vec::new(heap);
+    for word in words {
+        let Some(atom) = atom_of(word.as_bytes()) else {
+            return Err(Failure::Usage);
+        };
+        if atoms.push(atom).is_err() {
+            return Err(Failure::Memory);
+        }
+    }
+    Ok(atoms)
+}
+
+// What the words ask for; labels are measured where no kind is given.
+pub fn parse_request(heap: Global, words: &[String]) -> Result<Request, Failure> {
+    let (before, rest) = kind_option(words)?;
+    let Some((name, rest)) = rest.split_first() else {
+        return Err(Failure::Usage);
+    };
+    let (after, rest) = kind_option(rest)?;
+    let kind = after.or(before).unwrap_or(Kind::Measured);
+    let Some((file, rest)) = rest.split_first() else {
+        return Err(Failure::Usage);
+    };
+    let command = match name.as_str() {
+        "run" => Command::Run(atoms_of(heap, rest)?),
+        "check" if rest.is_empty() => Command::Check,
+        _ => return Err(Failure::Usage),
+    };
+    Ok(Request { kind, command, file: file.clone()? })
+}

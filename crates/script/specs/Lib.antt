@@ -1,0 +1,5 @@
+pub mod Trees
+pub mod Lists
+pub mod Extents
+pub mod Tallies
+pub mod Machines

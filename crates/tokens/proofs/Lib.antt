@@ -1,0 +1,4 @@
+pub mod Runs
+pub mod Positions
+pub mod Streams
+pub mod Ahead
