@@ -8,6 +8,9 @@ ghost use Rattle.std.specs.Options.{Cases as BySome};
 ghost use Rattle.atoms.specs.Atoms.{atoms, weightOf, holdsAt};
 ghost use Rattle.atoms.specs.Sets.{member, counted, Least, every, setOf};
 
+// How many atoms there are: each of the six tests holds or does not.
+pub const ATOMS: u8 = 64;
+
 // What a script can ask of a galley.
 #[derive(Clone, Copy, Debug)]
 pub enum Test {
@@ -93,7 +96,7 @@ impl AtomSet {
         ensures is { λ r. ⌜ r ≡ member (self .bits) atom ⌝ }
         ensures atoms { λ r. ⌜ (r ≡ true → atom < atoms) ⌝ }
     {
-        atom < 64 && (self.bits >> atom) & 1 == 1
+        atom < ATOMS && (self.bits >> atom) & 1 == 1
     }
 
     // The least member, if there is one.

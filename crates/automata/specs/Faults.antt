@@ -5,6 +5,7 @@ use Rattle.std.specs.declared.option.Option.the-variants.{Some, None}
 use Rattle.automata.specs.declared.Fault.{Fault}
 use Rattle.automata.specs.declared.Fault.the-variants.{ShortBuffer, LongText, StrayByte, LargeNumber, UnknownWord, Unexpected, NoMeasure, TooDeep, TooManySteps, VoidMachine, NoSuchState, WrongHead, WrongRow, RowsUnordered, RowsOverlap, TooManyRows}
 
+-- the number of a fault; there is no 12
 abbrev pub numberOf : Fault → ℕ
 numberOf ShortBuffer = 1
 numberOf LongText = 2

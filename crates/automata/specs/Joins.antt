@@ -6,9 +6,11 @@ use Prim.Native.Nat.{ℕ, _<_}
 use Rattle.atoms.specs.Atoms.{atoms}
 use Rattle.automata.specs.Traces.{Trace, last, then}
 
+-- a set of traces: which traces are members
 abbrev pub Traces : Type 0 → Type 1
 Traces L = Trace L → Type 0
 
+-- the first atom of a trace
 abbrev pub first : {L : Type 0} → Trace L → ℕ
 first (last a) = a
 first (then a l t) = a
@@ -18,7 +20,7 @@ pub data Fused {L : Type 0} : Trace L → Trace L → Trace L → Type 0 where
   at-last : {a : ℕ} {y : Trace L} → first y ≡ a → Fused (last a) y y
   further : {a : ℕ} {l : L} {x y t : Trace L} → Fused x y t → Fused (then a l x) y (then a l t)
 
--- e; f
+-- the traces of one set joined to those of another at a shared atom
 abbrev pub Sequence : {L : Type 0} → Traces L → Traces L → Traces L
 Sequence {L} A B t = (x : Trace L) × (y : Trace L) × Fused x y t × A x × B y
 

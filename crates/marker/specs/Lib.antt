@@ -1,3 +1,5 @@
 pub mod Files
 pub mod Places
+pub mod Requests
+pub mod Spots
 pub mod Words

@@ -5,14 +5,21 @@ ghost use mathlib.Core.List.{[]};
 ghost use Rattle.std.specs.declared.option.Option.the-variants.{Some};
 ghost use Rattle.std.specs.Options.{Cases as BySome};
 ghost use Rattle.marker.specs.Words.{atomOf, withDigit, numberOf, testsOn, joined, testIn};
+use atoms::ATOMS;
 use atoms::Test;
 use std::fmt;
 use words::Word;
 use words::known;
 
 // The tests, in the order in which they are written.
-const TESTS: [Test; 6] =
-    [Test::Widow, Test::Orphan, Test::Head, Test::Figure, Test::Note, Test::Last];
+const TESTS: [Test; 6] = [
+    Test::Widow,
+    Test::Orphan,
+    Test::Head,
+    Test::Figure,
+    Test::Note,
+    Test::Last,
+];
 
 // The test that the letters name, if there is one.
 fn test_of(letters: &[u8]) -> Option<Test>
@@ -101,7 +108,7 @@ pub impl fmt::Display for Tests as TestsDisplay {
         if atom == 0 {
             return f.write_str("none");
         }
-        if atom >= 64 {
+        if atom >= ATOMS {
             return f.write_str("no atom");
         }
         let mut between = "";

@@ -1,4 +1,8 @@
 // Why there is no answer, as the program says it.
+ghost use mathlib.Core.Path.{_≡_};
+ghost use Rattle.std.specs.declared.option.Option.{Option as Optional};
+ghost use Rattle.std.specs.declared.option.Option.the-variants.{None};
+ghost use Rattle.marker.specs.Spots.{Spotted};
 use crate::spot::Spot;
 use crate::spot::SpotDisplay as _;
 use automata::Fault;
@@ -32,7 +36,11 @@ pub impl From<Fault> for Cause as CauseFromFault {
 pub enum Failure {
     Usage,
     Memory,
-    File { name: String, cause: Cause, spot: Option<Spot> },
+    File {
+        name: String,
+        cause: Cause,
+        spot: Option<Spot>,
+    },
 }
 
 pub impl From<AllocError> for Failure as FailureFromAllocError {
@@ -43,25 +51,40 @@ pub impl From<AllocError> for Failure as FailureFromAllocError {
 
 impl Failure {
     // A file that cannot be read.
-    pub fn unreadable(name: String) -> Failure {
-        Failure::File { name, cause: Cause::Unreadable, spot: None }
+    pub fn unreadable(name: String) -> Failure
+        ensures { λ r. ⌜ r ≡ Failure.File name Cause.Unreadable None ⌝ }
+    {
+        Failure::File {
+            name,
+            cause: Cause::Unreadable,
+            spot: None,
+        }
     }
 
     // The cause at a file, with the spot of a refusal in its text.
-    pub fn of(name: String, cause: Cause, text: &[u8]) -> Failure {
-        let spot = match cause {
-            Cause::Refused(fault) => match fault.place() {
-                Some(place) => Some(Spot::of(text, place)),
-                None => None,
-            },
-            _ => None,
-        };
+    pub fn of(name: String, cause: Cause, text: &[u8]) -> Failure
+        ensures { λ r. ⌜ ((s : Optional Spot) × (r ≡ Failure.File name cause s) × Spotted cause (now (text .entry)) s) ⌝ }
+    {
+        let spot = spot_of(cause, text);
         Failure::File { name, cause, spot }
     }
 }
 
+// The spot of a refusal in a text, where it has a place.
+fn spot_of(cause: Cause, text: &[u8]) -> Option<Spot>
+    ensures { λ r. ⌜ Spotted cause (now (text .entry)) r ⌝ }
+{
+    let Cause::Refused(fault) = cause else {
+        return None;
+    };
+    match fault.place() {
+        Some(place) => Some(Spot::of(text, place)),
+        None => None,
+    }
+}
+
 // What a fault says, in words.
-fn words(fault: Fault) -> &'static str {
+fn in_words(fault: Fault) -> &'static str {
     match fault {
         Fault::ShortBuffer => "buffer below its fixed length",
         Fault::LongText => "text over 16,384 bytes",
@@ -99,7 +122,7 @@ fn write_refusal<W: fmt::Write>(
     if let Some(spot) = spot {
         write!(f, " ({spot})")?;
     }
-    let words = words(fault);
+    let words = in_words(fault);
     write!(f, ": {words}")
 }
 
@@ -109,7 +132,9 @@ pub impl fmt::Display for Failure as FailureDisplay {
             Failure::Usage => {
                 f.write_str("usage: marker run [--kind 1|2] MACHINE ATOM...\n")?;
                 f.write_str("       marker check [--kind 1|2] FILE\n")?;
-                f.write_str("an ATOM is a number 0 to 255, tests joined by `+` (widow orphan head figure note last), or `none`")
+                f.write_str(
+                    "an ATOM is a number 0 to 255, tests joined by `+` (widow orphan head figure note last), or `none`",
+                )
             }
             Failure::Memory => f.write_str("marker: no memory"),
             Failure::File { name, cause, spot } => {

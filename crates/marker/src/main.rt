@@ -7,6 +7,7 @@ use labels::BareLabel as _;
 use labels::Kind;
 use labels::Measured;
 use labels::MeasuredLabel as _;
+use reading::NODE_RECORDS;
 use reading::read;
 use script::Node;
 use script::Script;
@@ -38,9 +39,6 @@ use spelling::MeasuredSpelled as _;
 use spelling::Spelled;
 use spelling::replay;
 
-// How many records the node list of a script has.
-const NODES: usize = 1024;
-
 // Whether a file is a table: whether it begins with the letters MUS.
 fn is_table(file: &[u8]) -> bool
     ensures { λ r. ⌜ r ≡ tableHead (now (file .entry)) ⌝ }
@@ -52,8 +50,13 @@ fn is_table(file: &[u8]) -> bool
 }
 
 // What the command answers on the text of a script.
-fn answer<L: Spelled>(heap: Global, kind: Kind, text: &[u8], command: &Command) -> Result<String, Cause> {
-    let mut nodes = vec![in heap; Node::Blank; NODES]?;
+fn answer<L: Spelled>(
+    heap: Global,
+    kind: Kind,
+    text: &[u8],
+    command: &Command,
+) -> Result<String, Cause> {
+    let mut nodes = vec![in heap; Node::Blank; NODE_RECORDS]?;
     read(kind, text, &mut nodes[..])?;
     let machine = ScriptMachine::<Script, L>::of(&nodes[..]);
     match command {

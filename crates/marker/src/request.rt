@@ -1,10 +1,9 @@
 // What the words of a command line ask for.
 ghost use mathlib.Core.Path.{_≡_};
-ghost use mathlib.Core.List.{map};
 ghost use Rattle.std.specs.Of.Vec.{vec-items};
-ghost use Rattle.std.specs.Of.String.{string-bytes};
 ghost use Rattle.std.specs.Vec.{made};
 ghost use Rattle.marker.specs.Words.{kindOf};
+ghost use Rattle.marker.specs.Requests.{Kinded, Atoms, Commanded, Asked};
 use crate::atom::atom_of;
 use crate::failure::Failure;
 use crate::failure::FailureFromAllocError as _;
@@ -39,7 +38,9 @@ fn kind_of(word: &str) -> Option<Kind>
 }
 
 // The kind that the words begin with by `--kind`, if they do, and the words behind it.
-fn kind_option(words: &[String]) -> Result<(Option<Kind>, &[String]), Failure> {
+fn kind_option(words: &[String]) -> Result<(Option<Kind>, &[String]), Failure>
+    ensures { λ r. ⌜ made r (λ x. Kinded (now (words .entry)) (x .0) (now (x .1))) ⌝ }
+{
     match words.split_first() {
         Some((option, rest)) if option.as_str() == "--kind" => {
             let Some((number, rest)) = rest.split_first() else {
@@ -55,7 +56,9 @@ fn kind_option(words: &[String]) -> Result<(Option<Kind>, &[String]), Failure> {
 }
 
 // The atoms that the words write.
-fn atoms_of(heap: Global, words: &[String]) -> Result<Vec<u8>, Failure> {
+fn atoms_of(heap: Global, words: &[String]) -> Result<Vec<u8>, Failure>
+    ensures { λ r. ⌜ made r (λ v. Atoms (now (words .entry)) (vec-items v)) ⌝ }
+{
     let mut atoms = Vec::new(heap);
     for word in words {
         let Some(atom) = atom_of(word.as_bytes()) else {
@@ -68,8 +71,23 @@ fn atoms_of(heap: Global, words: &[String]) -> Result<Vec<u8>, Failure> {
     Ok(atoms)
 }
 
+// The command of a name, with the words behind its file.
+fn command_of(heap: Global, name: &str, words: &[String]) -> Result<Command, Failure>
+    ensures { λ r. ⌜ made r (λ q. Commanded (now (name .entry)) (now (words .entry)) q) ⌝ }
+{
+    if name == "run" {
+        return Ok(Command::Run(atoms_of(heap, words)?));
+    }
+    if name == "check" && words.is_empty() {
+        return Ok(Command::Check);
+    }
+    Err(Failure::Usage)
+}
+
 // What the words ask for; labels are measured where no kind is given.
-pub fn parse_request(heap: Global, words: &[String]) -> Result<Request, Failure> {
+pub fn parse_request(heap: Global, words: &[String]) -> Result<Request, Failure>
+    ensures { λ r. ⌜ made r (λ q. Asked (now (words .entry)) q) ⌝ }
+{
     let (before, rest) = kind_option(words)?;
     let Some((name, rest)) = rest.split_first() else {
         return Err(Failure::Usage);
@@ -79,10 +97,10 @@ pub fn parse_request(heap: Global, words: &[String]) -> Result<Request, Failure>
     let Some((file, rest)) = rest.split_first() else {
         return Err(Failure::Usage);
     };
-    let command = match name.as_str() {
-        "run" => Command::Run(atoms_of(heap, rest)?),
-        "check" if rest.is_empty() => Command::Check,
-        _ => return Err(Failure::Usage),
-    };
-    Ok(Request { kind, command, file: file.clone()? })
+    let command = command_of(heap, name.as_str(), rest)?;
+    Ok(Request {
+        kind,
+        command,
+        file: file.clone()?,
+    })
 }

@@ -1,4 +1,6 @@
 // Orders, moves and runs, as the program writes them.
+ghost use mathlib.Core.Path.{_≡_};
+ghost use lib.IntN.{pos};
 use crate::atom::Tests;
 use crate::atom::TestsDisplay as _;
 use automata::Ending;
@@ -48,21 +50,29 @@ pub trait Spelled: Label {
 }
 
 pub impl Spelled for Bare as BareSpelled {
-    fn verb_of(self) -> Verb {
+    fn verb_of(self) -> Verb
+        ensures { λ r. ⌜ r ≡ self .verb ⌝ }
+    {
         self.verb()
     }
 
-    fn parts_of(self) -> (i8, i8) {
+    fn parts_of(self) -> (i8, i8)
+        ensures { λ r. ⌜ (r .0 ≡ pos 0) × (r .1 ≡ pos 0) ⌝ }
+    {
         (0, 0)
     }
 }
 
 pub impl Spelled for Measured as MeasuredSpelled {
-    fn verb_of(self) -> Verb {
+    fn verb_of(self) -> Verb
+        ensures { λ r. ⌜ r ≡ self .verb ⌝ }
+    {
         self.verb()
     }
 
-    fn parts_of(self) -> (i8, i8) {
+    fn parts_of(self) -> (i8, i8)
+        ensures { λ r. ⌜ (r .0 ≡ self .picas) × (r .1 ≡ self .points) ⌝ }
+    {
         (self.picas(), self.points())
     }
 }

@@ -36,9 +36,15 @@ impl Spot {
         ensures bytes { λ r. ⌜ r .bytes ≡ cond (eqb byte 10) 0 (self .bytes + 1) ⌝ }
     {
         if byte == b'\n' {
-            Spot { lines: self.lines + 1, bytes: 0 }
+            Spot {
+                lines: self.lines + 1,
+                bytes: 0,
+            }
         } else {
-            Spot { lines: self.lines, bytes: self.bytes + 1 }
+            Spot {
+                lines: self.lines,
+                bytes: self.bytes + 1,
+            }
         }
     }
 }

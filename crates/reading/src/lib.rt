@@ -4,12 +4,13 @@ ghost use Prim.Native.Nat.{ℕ, _+_, _-_, _<_, _≤_};
 ghost use mathlib.Core.List.{_++_};
 ghost use lib.ListN.{length, take, replicate};
 ghost use Rattle.script.specs.declared.node.Node.the-variants.{Blank};
+ghost use Rattle.script.specs.Lists.{mostSteps};
 ghost use Rattle.std.specs.declared.result.Result.the-variants.{Ok, Err};
 ghost use Rattle.automata.specs.declared.Fault.the-variants.{TooManySteps};
 ghost use Rattle.tokens.specs.Streams.{left};
 ghost use Rattle.reading.specs.Firsts.{firstOf};
 ghost use Rattle.reading.specs.Steps.{signedBy, amountOf, measureOf, plainOf, stepAt, scriptAt, blockAt, ifOf};
-ghost use Rattle.reading.specs.Drafts.{Room, Stored, Drafted, Pushed, Planted, Ordered};
+ghost use Rattle.reading.specs.Drafts.{nodeRecords, Room, Stored, Drafted, Pushed, Planted, Ordered};
 ghost use Rattle.reading.specs.Readings.{readingOf, Whole, Read};
 use atoms::AtomSet;
 use automata::Fault;
@@ -18,6 +19,7 @@ use conditions::open_level;
 use labels::Kind;
 use labels::Order;
 use labels::Verb;
+use script::MOST_STEPS;
 use script::Node;
 use tokens::Mark;
 use tokens::Reader;
@@ -128,12 +130,9 @@ struct Progress {
     steps: usize,
 }
 
-// The most steps that a script has.
-const MOST_STEPS: usize = 255;
-
 // One step more, which begins at the place.
 fn count(from: Progress, place: usize) -> Result<Progress, Fault>
-    ensures { λ r. ⌜ elim r [ Ok to ↦ (from .steps < 255) × (to .steps ≡ from .steps + 1) × (to .used ≡ from .used) | Err f ↦ (255 ≤ from .steps) × (f ≡ TooManySteps place) ] ⌝ }
+    ensures { λ r. ⌜ elim r [ Ok to ↦ (from .steps < mostSteps) × (to .steps ≡ from .steps + 1) × (to .used ≡ from .used) | Err f ↦ (mostSteps ≤ from .steps) × (f ≡ TooManySteps place) ] ⌝ }
 {
     if from.steps >= MOST_STEPS {
         return Err(Fault::TooManySteps(place));
@@ -248,7 +247,7 @@ const MOST_LEVELS: u8 = 32;
 
 // A whole text, with its script at the front of the list; how many nodes it takes.
 fn whole(kind: Kind, text: &[u8], nodes: &mut [Node]) -> Result<usize, Fault>
-    requires { ⌜ 1024 ≤ length (now nodes) ⌝ }
+    requires { ⌜ nodeRecords ≤ length (now nodes) ⌝ }
     ensures { λ r. ⌜ Whole (readingOf kind (now (text .entry))) (now (nodes .exit)) r ⌝ }
 {
     let mut reader = Reader::new(text);
@@ -273,10 +272,11 @@ fn blank_out(nodes: &mut [Node], from: usize)
     }
 }
 
-// The fixed length of a node list, and the most bytes of a text.
-const NODE_RECORDS: usize = 1024;
+// The fixed length of a node list.
+pub const NODE_RECORDS: usize = 1024;
 
-const MOST_BYTES: usize = 16384;
+// The most bytes of a text.
+pub const MOST_BYTES: usize = 16384;
 
 // Reads a script of a kind into the node list. After it the list holds the script and is blank behind it; after a
 // refusal for the text it is all blank, and after one for the lengths it is as before.

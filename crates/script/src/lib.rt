@@ -14,12 +14,13 @@ ghost use mathlib.Core.List.{List};
 ghost use Rattle.script.specs.Lists.{blankNode, allBlank, scriptIn, Placed};
 ghost use Rattle.script.specs.Machines.{scriptMove, sizeOn};
 ghost use Rattle.script.specs.Tallies.{Tallied, Grows, Surveyed};
+use atoms::ATOMS;
 use atoms::AtomSet;
 use automata::Move;
 use labels::Order;
 
 // The most steps that a script has.
-const MOST_STEPS: usize = 255;
+pub const MOST_STEPS: usize = 255;
 
 mod lent;
 mod machine;
@@ -364,7 +365,7 @@ impl<'a> Script<'a> {
         if self.used == 0 {
             return Move::Reject;
         }
-        if atom >= 64 || state > self.orders as usize {
+        if atom >= ATOMS || state > self.orders as usize {
             return Move::Reject;
         }
         if state == 0 {

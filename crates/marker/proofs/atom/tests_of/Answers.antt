@@ -10,10 +10,12 @@ use Rattle.marker.proofs.Steps.{part, letter-more, plus-more, tests-all}
 use Rattle.marker.proofs.atom.tests_of.Needs as need
 
 pub loop-i-again-then-word-i-ne43 : need.loop-i-again-then-word-i-ne43
-loop-i-again-then-word-i-ne43 c =
-    (omega arith, c .loop-i .inv .1,
-    sym (letter-more (c .loop-i .atom) (c .args .word .now) (c .loop-i .start) (c .loop-i .i) (c .loop-i .inv .0) (c .loop-i-test .taken) (ne-eqb _ _ (c .if-word-i-ne43 .taken)))
-    ∙ c .loop-i .inv .2)
+loop-i-again-then-word-i-ne43 c = (
+  omega arith,
+  c .loop-i .inv .1,
+  sym (letter-more (c .loop-i .atom) (c .args .word .now) (c .loop-i .start) (c .loop-i .i) (c .loop-i .inv .0) (c .loop-i-test .taken) (ne-eqb _ _ (c .if-word-i-ne43 .taken)))
+      ∙ c .loop-i .inv .2,
+)
 
 pub returns-in-Break-atom : need.returns-in-Break-atom
 returns-in-Break-atom c =
@@ -22,10 +24,12 @@ returns-in-Break-atom c =
     ∙ c .loop-i .inv .2
 
 pub loop-i-again : need.loop-i-again
-loop-i-again c =
-    (omega arith, c .in-Continue-atom .ensures tt .small,
-    sym (plus-more (c .loop-i .atom) (c .args .word .now) (c .loop-i .start) (c .loop-i .i) (Some (c .in-Continue-atom .atom)) (c .loop-i-test .taken) (eq-eqb _ _ (c .if-word-i-ne43 .left)) (c .in-Continue-atom .ensures tt .is))
-    ∙ c .loop-i .inv .2)
+loop-i-again c = (
+  omega arith,
+  c .in-Continue-atom .ensures tt .small,
+  sym (plus-more (c .loop-i .atom) (c .args .word .now) (c .loop-i .start) (c .loop-i .i) (Some (c .in-Continue-atom .atom)) (c .loop-i-test .taken) (eq-eqb _ _ (c .if-word-i-ne43 .left)) (c .in-Continue-atom .ensures tt .is))
+      ∙ c .loop-i .inv .2,
+)
 
 pub returns : need.returns
 returns c =

@@ -1,0 +1,4 @@
+pub mod Escapes
+pub mod Kinds
+pub mod Outcomes
+pub mod Texts
