@@ -16,7 +16,7 @@ use Rattle.script.specs.Trees.{Tree, ordered, tested, joined, branched, guarde
 use Rattle.script.specs.Lists.{nodeAt, Placed}
 use Rattle.std.proofs.shelf.Tests.{le-leb, lt-leb}
 use lib.Dec.{leb}
-use Rattle.script.proofs.Parts.{orders-expr, of-blank, of-order, of-test, of-sequence, of-if, of-when, of-while, Two, One}
+use Rattle.script.proofs.Parts.{orders-expr, of-order, of-test, of-sequence, of-if, of-when, of-while, Two, One}
 
 -- the first move of the tree that ends before e, its start, and the orders before it
 abbrev pub Says : List Node → ℕ → ℕ → ℕ → Move Said → ℕ → ℕ → Type 0
@@ -30,9 +30,6 @@ Fits a count mv start before t i n = count ≡ n + orders t → (mv ≡ firstMov
 module _ (ns : List Node) (a e count : ℕ) where
   alike-tree : (mv : Move Said) (start before : ℕ) (t u : Tree) (i n : ℕ) → t ≡ u → Fits a count mv start before u i n → Fits a count mv start before t i n
   alike-tree mv start before t u i n is h = subst (λ (x : Tree). Fits a count mv start before x i n) (sym is) h
-
-  pub says-blank : nodeAt ns (e - 1) ≡ Blank → (mv : Move Said) (start before : ℕ) → Says ns a e count mv start before
-  says-blank is mv start before t i n h c = absurd (of-blank ns i e is t h)
 
   pub says-order : (o : Said) → nodeAt ns (e - 1) ≡ Order o → (before : ℕ) → before ≡ count - 1 → Says ns a e count (Step o count) (e - 1) before
   says-order o is before b t i n h =
@@ -86,9 +83,6 @@ over k n x y h = ap (λ (b : Bool). cond b x y) (lt-leb k n h)
 module _ (ns : List Node) (a e count k : ℕ) where
   abbrev Fits-after : Move Said → ℕ → Tree → Type 0
   Fits-after mv n t = count ≡ n + orders t → mv ≡ afterMove (exprOf t) n k a
-
-  pub after-blank : nodeAt ns (e - 1) ≡ Blank → (mv : Move Said) → Says-after ns a e count k mv
-  after-blank is mv t i n h c = absurd (of-blank ns i e is t h)
 
   pub after-order : (o : Said) → nodeAt ns (e - 1) ≡ Order o → Says-after ns a e count k Accept
   after-order o is t i n h = subst (Fits-after Accept n) (sym (of-order ns i e o is t h .0)) (λ c. refl)

@@ -219,11 +219,7 @@ fn first(nodes: &[Node], end: usize, count: u16, atom: u8) -> Walked
     ensures { λ r. ⌜ ((t : Tree) (i n : ℕ) → Placed (now (nodes .entry)) i t end → count ≡ n + orders t → (r .next ≡ firstMove (exprOf t) n atom) × (r .start ≡ i) × (r .before ≡ n)) ⌝ }
 {
     match nodes[end - 1] {
-        Node::Blank => Walked {
-            next: Move::Reject,
-            start: end - 1,
-            before: count,
-        },
+        Node::Blank => unreachable(),
         Node::Order(order) => {
             Walked {
                 next: Move::Step(order, count),
@@ -302,7 +298,7 @@ fn after(nodes: &[Node], end: usize, count: u16, k: u16, atom: u8) -> Move<Order
     ensures { λ r. ⌜ ((t : Tree) (i n : ℕ) → Placed (now (nodes .entry)) i t end → count ≡ n + orders t → r ≡ afterMove (exprOf t) n k atom) ⌝ }
 {
     match nodes[end - 1] {
-        Node::Blank => Move::Reject,
+        Node::Blank => unreachable(),
         Node::Order(_) => Move::Accept,
         Node::Test(_) => Move::Reject,
         Node::Sequence => {

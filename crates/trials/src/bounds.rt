@@ -5,9 +5,9 @@ ghost use Rattle.std.specs.Of.String.{string-bytes};
 ghost use Rattle.std.specs.Vec.{made};
 ghost use Rattle.trials.specs.Texts.{repeated, textOf};
 use crate::outcome::Outcome;
-use crate::question::NODES;
 use crate::question::read_into;
 use labels::Kind;
+use reading::NODE_RECORDS;
 use script::Node;
 use std::alloc::AllocError;
 use std::alloc::Global;
@@ -36,7 +36,7 @@ impl Case {
         Case {
             name,
             kind: Kind::Measured,
-            records: NODES,
+            records: NODE_RECORDS,
             before: text,
             open: "",
             opens: 0,

@@ -15,6 +15,7 @@ use labels::BareLabel as _;
 use labels::Kind;
 use labels::Measured;
 use labels::MeasuredLabel as _;
+use reading::NODE_RECORDS;
 use reading::read;
 use script::Node;
 use script::Script;
@@ -23,9 +24,6 @@ use script::ScriptMachineMachine as _;
 use script::ScriptWalker as _;
 use std::alloc::Global;
 use std::error::AnyError;
-
-// How many records a node list has.
-pub const NODES: usize = 1024;
 
 // What is asked of a script.
 #[derive(Drop)]
@@ -103,7 +101,7 @@ impl Question {
 
     // What the libraries answer.
     pub fn answer(&self, heap: Global) -> Result<Outcome, AnyError> {
-        let mut nodes = vec![in heap; Node::Blank; NODES]?;
+        let mut nodes = vec![in heap; Node::Blank; NODE_RECORDS]?;
         if let Err(fault) = read(self.kind, self.text.as_slice(), &mut nodes[..]) {
             return Ok(Outcome::refused(fault));
         }

@@ -10,8 +10,8 @@ use Rattle.labels.specs.declared.Order.{Order as Said}
 use Rattle.automata.specs.Walks.{firstMove, afterMove, thenMove, turnMove, ordersIn}
 use Rattle.script.specs.Trees.{Tree, joined, branched, guarded, looped, orders, exprOf}
 use Rattle.script.specs.Lists.{Placed}
-use Rattle.script.proofs.Parts.{some, of-sequence, of-if, of-when, of-while}
-use Rattle.script.proofs.Says.{after-blank, after-order, after-test, after-right, after-left, after-one, upto, over, then-rest}
+use Rattle.script.proofs.Parts.{some, of-blank, of-sequence, of-if, of-when, of-while}
+use Rattle.script.proofs.Says.{after-order, after-test, after-right, after-left, after-one, upto, over, then-rest}
 use Rattle.script.proofs.+after.Needs as need
 
 -- the move of a loop that comes round
@@ -96,9 +96,6 @@ enter-requires t c κs =
     let b = c .pre .tree .4 in
     record { some = omega arith; within = search needs; tree = (p .part, c .pre .tree .1, c .pre .tree .2, p .on-part, omega arith) }
 
-pub returns-in-Blank : need.returns-in-Blank
-returns-in-Blank t c = after-blank (c .args .nodes .now) (c .args .atom) (c .args .end) (c .args .count) (c .args .k) (c .in-Blank .is) _
-
 pub returns-in-Test : need.returns-in-Test
 returns-in-Test t c = after-test (c .args .nodes .now) (c .args .atom) (c .args .end) (c .args .count) (c .args .k) _ (c .in-Test .is)
 
@@ -143,3 +140,6 @@ pub returns-in-rest : need.returns-in-rest
 returns-in-rest t c =
     after-one (c .args .nodes .now) (c .args .atom) (c .args .end) (c .args .count) (c .args .k) (looped (c .in-While .set .bits)) (λ u i. of-while _ i _ (c .in-While .set) (c .in-While .is) u) (λ l. refl) _ (c .after-in-While .result) (c .after-in-While .ensures)
     (λ l i n h w v x. sym (then-rest (c .after-in-While .result) (again (c .in-While .set .bits) (c .args .atom) l n) (c .in-rest .not-Accept)) ∙ ap (λ (m : Move Said). thenMove m (again (c .in-While .set .bits) (c .args .atom) l n)) x)
+
+pub unreachable-requires : need.unreachable-requires
+unreachable-requires t c κs = of-blank (c .args .nodes .now) (c .pre .tree .1) (c .args .end) (c .in-Blank .is) (c .pre .tree .0) (c .pre .tree .3)

@@ -10,12 +10,12 @@ use Rattle.labels.specs.declared.Order.{Order as Said}
 use Rattle.automata.specs.Walks.{thenMove, turnMove}
 use Rattle.script.specs.Trees.{Tree, ordered, joined, branched, guarded, looped, orders}
 use Rattle.script.specs.Lists.{Placed}
-use Rattle.script.proofs.Parts.{some, of-order, of-sequence, of-if, of-when, of-while}
-use Rattle.script.proofs.Says.{says-blank, says-order, says-test, says-two, says-one}
+use Rattle.script.proofs.Parts.{some, of-blank, of-order, of-sequence, of-if, of-when, of-while}
+use Rattle.script.proofs.Says.{says-order, says-test, says-two, says-one}
 use Rattle.script.proofs.+first.Needs as need
 
-pub sub-result-in-Order-2 : need.sub-result-in-Order-2
-sub-result-in-Order-2 t c =
+pub sub-result-in-Order : need.sub-result-in-Order
+sub-result-in-Order t c =
     let p = of-order (c .args .nodes .now) (c .pre .tree .1) (c .args .end) (c .in-Order .order) (c .in-Order .is) (c .pre .tree .0) (c .pre .tree .3) in
     let a = ap orders (p .0) in
     let b = c .pre .tree .4 in
@@ -75,9 +75,6 @@ first-body-requires-in-While t c κs =
     let b = c .pre .tree .4 in
     (search needs, (omega arith, (search needs, (p .part, c .pre .tree .1, c .pre .tree .2, p .on-part, omega arith))))
 
-pub returns-in-Blank : need.returns-in-Blank
-returns-in-Blank t c = says-blank (c .args .nodes .now) (c .args .atom) (c .args .end) (c .args .count) (c .in-Blank .is) _ _ _
-
 pub returns-in-Order : need.returns-in-Order
 returns-in-Order t c = says-order (c .args .nodes .now) (c .args .atom) (c .args .end) (c .args .count) (c .in-Order .order) (c .in-Order .is) _ refl
 
@@ -109,3 +106,6 @@ returns-in-While t c =
     says-one (c .args .nodes .now) (c .args .atom) (c .args .end) (c .args .count) (looped (c .in-While .set .bits)) (λ u i. of-while _ i _ (c .in-While .set) (c .in-While .is) u) (λ l. refl)
     (c .first-body-in-While .result .next) (c .first-body-in-While .result .start) (c .first-body-in-While .result .before) (c .first-body-in-While .ensures)
     (c .choose-next-in-While .result) (λ l n x. c .choose-next-in-While .ensures ∙ ap (λ (m : Move Said). cond (member (c .in-While .set .bits) (c .args .atom)) m Accept) (c .turn .ensures ∙ ap turnMove x))
+
+pub unreachable-requires : need.unreachable-requires
+unreachable-requires t c κs = of-blank (c .args .nodes .now) (c .pre .tree .1) (c .args .end) (c .in-Blank .is) (c .pre .tree .0) (c .pre .tree .3)
