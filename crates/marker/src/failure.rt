@@ -1,4 +1,6 @@
 // Why there is no answer, as the program says it.
+ghost use Rattle.marker.specs.declared.failure.Cause.the-variants.{Memory, Refused};
+ghost use Rattle.marker.specs.declared.failure.Failure.the-variants.{Memory as NoMemory};
 ghost use mathlib.Core.Path.{_≡_};
 ghost use Rattle.std.specs.declared.option.Option.{Option as Optional};
 ghost use Rattle.std.specs.declared.option.Option.the-variants.{None};
@@ -20,12 +22,16 @@ pub enum Cause {
 }
 
 pub impl From<AllocError> for Cause as CauseFromAllocError {
+    ghost converts = { λ e r. r ≡ Memory };
+
     fn from(_error: AllocError) -> Cause {
         Cause::Memory
     }
 }
 
 pub impl From<Fault> for Cause as CauseFromFault {
+    ghost converts = { λ f r. r ≡ Refused f };
+
     fn from(fault: Fault) -> Cause {
         Cause::Refused(fault)
     }
@@ -44,6 +50,8 @@ pub enum Failure {
 }
 
 pub impl From<AllocError> for Failure as FailureFromAllocError {
+    ghost converts = { λ e r. r ≡ NoMemory };
+
     fn from(_error: AllocError) -> Failure {
         Failure::Memory
     }

@@ -1,5 +1,6 @@
 // The marker: runs and checks make-up scripts.
 ghost use mathlib.Core.Path.{_≡_};
+ghost use Rattle.marker.specs.Answers.{Answered, FileAnswered};
 ghost use Rattle.marker.specs.Files.{tableHead};
 use automata::Machine;
 use labels::Bare;
@@ -55,7 +56,9 @@ fn answer<L: Spelled>(
     kind: Kind,
     text: &[u8],
     command: &Command,
-) -> Result<String, Cause> {
+) -> Result<String, Cause>
+    ensures { λ r. ⌜ Answered kind (now (text .entry)) r ⌝ }
+{
     let mut nodes = vec![in heap; Node::Blank; NODE_RECORDS]?;
     read(kind, text, &mut nodes[..])?;
     let machine = ScriptMachine::<Script, L>::of(&nodes[..]);
@@ -69,7 +72,9 @@ fn answer<L: Spelled>(
 }
 
 // What the command answers on a file that was read.
-fn answer_file(heap: Global, request: &Request, file: &[u8]) -> Result<String, Cause> {
+fn answer_file(heap: Global, request: &Request, file: &[u8]) -> Result<String, Cause>
+    ensures { λ r. ⌜ FileAnswered (now (request .entry) .kind) (now (file .entry)) r ⌝ }
+{
     if is_table(file) {
         return Err(Cause::Table);
     }

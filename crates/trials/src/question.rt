@@ -4,6 +4,10 @@ ghost use mathlib.Core.Path.{_≡_};
 ghost use lib.Chars.{codes};
 ghost use Rattle.std.specs.Of.Vec.{vec-items};
 ghost use Rattle.std.specs.Vec.{made};
+ghost use Rattle.std.specs.declared.result.Result.the-variants.{Err};
+ghost use Rattle.automata.specs.declared.Fault.{Fault as Failing};
+ghost use Rattle.automata.specs.Faults.{numberOf, layerOf, placeOf};
+ghost use Rattle.reading.specs.Readings.{outcomeOf as readAs};
 ghost use Rattle.trials.specs.Kinds.{Numbers};
 use crate::escape::unescape;
 use crate::outcome::Outcome;
@@ -122,7 +126,9 @@ fn task_on<L: Label>(nodes: &[Node], task: &Task) -> Outcome {
 }
 
 // What reading answers: the size of the script's machine, or a refusal.
-pub fn read_into(kind: Kind, text: &[u8], nodes: &mut [Node]) -> Outcome {
+pub fn read_into(kind: Kind, text: &[u8], nodes: &mut [Node]) -> Outcome
+    ensures { λ r. ⌜ ((f : Failing) → readAs kind (now (text .entry)) (now (nodes .entry)) ≡ Err f → r ≡ Outcome.Refused (numberOf f) (layerOf f) (placeOf f)) ⌝ }
+{
     match read(kind, text, nodes) {
         Err(fault) => Outcome::refused(fault),
         Ok(()) => match kind {
