@@ -55,6 +55,7 @@ abbrev pub withLabel : {M : Type 0} → ℕ → Option M → Move M
 withLabel t None = Reject
 withLabel t (Some m) = Step m t
 
+-- the same move with a label of another kind
 abbrev pub labelled : {L M : Type 0} → (L → Option M) → Move L → Move M
 labelled f Accept = Accept
 labelled f Reject = Reject

@@ -21,6 +21,7 @@ operandOn neg group (Set x) s = Ok (x .bits, s)
 operandOn neg group (Not p) s = neg p s
 operandOn neg group (Group p) s = group p s
 
+-- one factor more: the atoms of both
 abbrev pub andPart : (Stream → Out ℕ) → ℕ → Stream → Out ℕ
 andPart factor x s = bind (factor s) (λ y r. Ok (bitAnd x y, r))
 
@@ -28,6 +29,7 @@ andPart factor x s = bind (factor s) (λ y r. Ok (bitAnd x y, r))
 abbrev pub termOf : (Stream → Out ℕ) → Stream → Out ℕ
 termOf factor s = bind (factor s) (chain And (andPart factor))
 
+-- one term more: the atoms of either
 abbrev pub orPart : (Stream → Out ℕ) → ℕ → Stream → Out ℕ
 orPart term x s = bind (term s) (λ y r. Ok (bitOr x y, r))
 

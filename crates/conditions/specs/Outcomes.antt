@@ -8,6 +8,7 @@ use Rattle.automata.specs.declared.Fault.{Fault}
 use Rattle.tokens.specs.declared.Mark.{Mark}
 use Rattle.tokens.specs.Streams.{Stream, ahead, begins, past}
 
+-- a value and the tokens behind it, or the fault
 abbrev pub Out : Type 0 → Type 0
 Out A = Result (A × Stream) Fault
 

@@ -1,5 +1,6 @@
 // Verbs, orders, and the two kinds of label: bare and measured.
 ghost use mathlib.Core.Path.{_≡_};
+ghost use lib.IntN.{pos};
 ghost use Rattle.labels.specs.Verbs.{byteOf, verbOf, nameOf};
 ghost use Rattle.labels.specs.Kinds.{orderBytes, sameVerb, alikeBare, madeBare, writtenBare, measureOf, alikeMeasured, madeMeasured, writtenMeasured, kindNumber, takesMeasure};
 use automata::Label;
@@ -68,7 +69,7 @@ impl Verb {
     }
 
     // Whether the verbs are equal.
-    pub fn same(self, other: Verb) -> bool
+    fn same(self, other: Verb) -> bool
         ensures { λ r. ⌜ r ≡ sameVerb self other ⌝ }
     {
         self.byte() == other.byte()
@@ -124,11 +125,15 @@ pub struct Bare {
 }
 
 impl Bare {
-    // The label's verb.
-    pub fn verb(self) -> Verb
-        ensures { λ r. ⌜ r ≡ self .verb ⌝ }
+    // The order that the label stands for.
+    pub fn order(self) -> Order
+        ensures { λ r. ⌜ (r .verb ≡ self .verb) × (r .picas ≡ pos 0) × (r .points ≡ pos 0) ⌝ }
     {
-        self.verb
+        Order {
+            verb: self.verb,
+            picas: 0,
+            points: 0,
+        }
     }
 }
 
@@ -166,8 +171,19 @@ pub impl Label for Bare as BareLabel {
 }
 
 impl Measured {
+    // The order that the label stands for.
+    pub fn order(self) -> Order
+        ensures { λ r. ⌜ (r .verb ≡ self .verb) × (r .picas ≡ self .picas) × (r .points ≡ self .points) ⌝ }
+    {
+        Order {
+            verb: self.verb,
+            picas: self.picas,
+            points: self.points,
+        }
+    }
+
     // The label's measure: twelve points make a pica.
-    pub fn measure(self) -> i16
+    fn measure(self) -> i16
         ensures { λ r. ⌜ r ≡ measureOf self ⌝ }
     {
         12 * self.picas as i16 + self.points as i16
@@ -203,12 +219,7 @@ pub impl Label for Measured as MeasuredLabel {
     }
 
     fn to_bytes(&self) -> [u8; 3] {
-        let order = Order {
-            verb: self.verb,
-            picas: self.picas,
-            points: self.points,
-        };
-        order.bytes()
+        self.order().bytes()
     }
 }
 

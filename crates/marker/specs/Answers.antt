@@ -18,6 +18,7 @@ use Rattle.marker.specs.Files.{tableHead}
 use Rattle.marker.specs.declared.failure.Cause.{Cause}
 use Rattle.marker.specs.declared.failure.Cause.the-variants.{Unreadable, Table, Refused, Memory}
 
+-- the fault of an outcome, if it is one
 abbrev pub faultOf : Result Tree Fault → Option Fault
 faultOf (Ok t) = None
 faultOf (Err f) = Some f

@@ -1,6 +1,4 @@
-pub mod Answers
 pub mod Files
-pub mod Places
-pub mod Requests
+pub mod Answers
 pub mod Spots
-pub mod Words
+pub mod Wrongs

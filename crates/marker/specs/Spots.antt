@@ -8,8 +8,8 @@ use Rattle.std.specs.declared.option.Option.the-variants.{Some, None}
 use Rattle.automata.specs.Faults.{placeOf}
 use Rattle.marker.specs.declared.failure.Cause.{Cause}
 use Rattle.marker.specs.declared.failure.Cause.the-variants.{Unreadable, Table, Refused, Memory}
-use Rattle.marker.specs.declared.spot.Spot.{Spot}
-use Rattle.marker.specs.Places.{breaks, since}
+use Rattle.requests.specs.declared.spot.Spot.{Spot}
+use Rattle.requests.specs.Places.{breaks, since}
 
 -- the lines and bytes before a place, if there is one
 abbrev pub At-place : Option ℕ → List ℕ → Option Spot → Type 0

@@ -1,13 +1,14 @@
 // Why there is no answer, as the program says it.
 ghost use Rattle.marker.specs.declared.failure.Cause.the-variants.{Memory, Refused};
-ghost use Rattle.marker.specs.declared.failure.Failure.the-variants.{Memory as NoMemory};
+ghost use Rattle.marker.specs.Wrongs.{failureOf};
 ghost use mathlib.Core.Path.{_≡_};
 ghost use Rattle.std.specs.declared.option.Option.{Option as Optional};
 ghost use Rattle.std.specs.declared.option.Option.the-variants.{None};
 ghost use Rattle.marker.specs.Spots.{Spotted};
-use crate::spot::Spot;
-use crate::spot::SpotDisplay as _;
 use automata::Fault;
+use requests::Spot;
+use requests::SpotDisplay as _;
+use requests::Wrong;
 use std::alloc::AllocError;
 use std::fmt;
 use std::io;
@@ -49,11 +50,14 @@ pub enum Failure {
     },
 }
 
-pub impl From<AllocError> for Failure as FailureFromAllocError {
-    ghost converts = { λ e r. r ≡ NoMemory };
+pub impl From<Wrong> for Failure as FailureFromWrong {
+    ghost converts = { λ w r. r ≡ failureOf w };
 
-    fn from(_error: AllocError) -> Failure {
-        Failure::Memory
+    fn from(wrong: Wrong) -> Failure {
+        match wrong {
+            Wrong::Usage => Failure::Usage,
+            Wrong::Memory => Failure::Memory,
+        }
     }
 }
 

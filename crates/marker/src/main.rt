@@ -19,22 +19,20 @@ use std::alloc::Global;
 use std::env;
 use std::fs;
 
-mod atom;
 mod failure;
-mod request;
 mod spelling;
-mod spot;
 
 use failure::Cause;
 use failure::CauseFromAllocError as _;
 use failure::CauseFromFault as _;
 use failure::Failure;
 use failure::FailureDisplay as _;
+use failure::FailureFromWrong as _;
 use failure::Status;
 use failure::StatusFromIoError as _;
-use request::Command;
-use request::Request;
-use request::parse_request;
+use requests::Command;
+use requests::Request;
+use requests::parse_request;
 use spelling::BareSpelled as _;
 use spelling::MeasuredSpelled as _;
 use spelling::Spelled;

@@ -1,8 +1,6 @@
 // Orders, moves and runs, as the program writes them.
 ghost use mathlib.Core.Path.{_≡_};
 ghost use lib.IntN.{pos};
-use crate::atom::Tests;
-use crate::atom::TestsDisplay as _;
 use automata::Ending;
 use automata::Label;
 use automata::Machine;
@@ -12,7 +10,9 @@ use labels::Bare;
 use labels::BareLabel as _;
 use labels::Measured;
 use labels::MeasuredLabel as _;
-use labels::Verb;
+use labels::Order;
+use requests::Tests;
+use requests::TestsDisplay as _;
 use std::alloc::AllocError;
 use std::alloc::Global;
 use std::fmt;
@@ -44,36 +44,22 @@ impl fmt::Display for Measure as MeasureDisplay {
 
 // A label that is written as scripts write orders.
 pub trait Spelled: Label {
-    fn verb_of(self) -> Verb;
-
-    fn parts_of(self) -> (i8, i8);
+    fn order_of(self) -> Order;
 }
 
 pub impl Spelled for Bare as BareSpelled {
-    fn verb_of(self) -> Verb
-        ensures { λ r. ⌜ r ≡ self .verb ⌝ }
+    fn order_of(self) -> Order
+        ensures { λ r. ⌜ r .verb ≡ self .verb ⌝ }
     {
-        self.verb()
-    }
-
-    fn parts_of(self) -> (i8, i8)
-        ensures { λ r. ⌜ (r .0 ≡ pos 0) × (r .1 ≡ pos 0) ⌝ }
-    {
-        (0, 0)
+        self.order()
     }
 }
 
 pub impl Spelled for Measured as MeasuredSpelled {
-    fn verb_of(self) -> Verb
-        ensures { λ r. ⌜ r ≡ self .verb ⌝ }
+    fn order_of(self) -> Order
+        ensures { λ r. ⌜ (r .verb ≡ self .verb) × (r .picas ≡ self .picas) × (r .points ≡ self .points) ⌝ }
     {
-        self.verb()
-    }
-
-    fn parts_of(self) -> (i8, i8)
-        ensures { λ r. ⌜ (r .0 ≡ self .picas) × (r .1 ≡ self .points) ⌝ }
-    {
-        (self.picas(), self.points())
+        self.order()
     }
 }
 
@@ -86,21 +72,21 @@ impl<L: Spelled> fmt::Display for Written<L> as WrittenDisplay {
         match self.0 {
             Move::Accept => f.write_str("accept"),
             Move::Reject => f.write_str("reject"),
-            Move::Step(label, _) => write_order(f, label.verb_of(), label.parts_of()),
+            Move::Step(label, _) => write_order(f, label.order_of()),
         }
     }
 }
 
 // Writes an order; a measure of 0p0 is left out.
-fn write_order<W: fmt::Write>(
-    f: &mut fmt::Formatter<W>,
-    verb: Verb,
-    parts: (i8, i8),
-) -> fmt::Result {
+fn write_order<W: fmt::Write>(f: &mut fmt::Formatter<W>, order: Order) -> fmt::Result {
+    let Order {
+        verb,
+        picas,
+        points,
+    } = order;
     for b in verb.name() {
         f.write_char(char::from(*b))?;
     }
-    let (picas, points) = parts;
     if picas == 0 && points == 0 {
         return Ok(());
     }

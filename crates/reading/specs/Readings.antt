@@ -25,10 +25,12 @@ use Rattle.reading.specs.Drafts.{nodeRecords}
 abbrev pub mostLevels : ℕ
 mostLevels = 32
 
+-- a tree whose text ends, or the fault behind it
 abbrev pub endOn : Tree → Option Fault → Result Tree Fault
 endOn t None = Ok t
 endOn t (Some f) = Err f
 
+-- a script and then the end of the text
 abbrev pub wholeOn : Out Tree → Result Tree Fault
 wholeOn (Ok x) = endOn (x .0) (expectedEnd (x .1))
 wholeOn (Err f) = Err f

@@ -31,9 +31,11 @@ abbrev pub signedBy : Bool → ℕ → ℤ
 signedBy true v = negℤ (pos v)
 signedBy false v = pos v
 
+-- an order of a verb, with picas and points of one sign
 abbrev pub orderOf : OrderVerb → Bool → ℕ → ℕ → Order
 orderOf v minus a b = record { verb = v; picas = signedBy minus a; points = signedBy minus b }
 
+-- what follows a word, or its fault
 abbrev pub thenOn : {A : Type 0} → Result Stream Fault → (Stream → Out A) → Out A
 thenOn (Ok s) f = f s
 thenOn (Err e) f = Err e
@@ -46,6 +48,7 @@ thenP s f = thenOn (expectedP s) f
 abbrev pub amountOf : OrderVerb → Bool → Stream → Out Order
 amountOf v minus s = bind (expectedNumber s) (λ a r. thenP r (λ q. bind (expectedNumber q) (λ b u. Ok (orderOf v minus a b, u))))
 
+-- what follows a verb, by the place of `by`
 abbrev pub measureOn : Kind → OrderVerb → Stream → Option ℕ → Out Order
 measureOn k v s None = Ok (orderOf v false 0 0, s)
 measureOn k v s (Some p) = cond (takesMeasure k) (amountOf v (begins Minus (pastBy s)) (past Minus (pastBy s))) (Err (NoMeasure p))
@@ -66,9 +69,11 @@ abbrev pub ifOf : (ℕ → Stream → Out Tree) → ℕ → ℕ → Stream → O
 ifOf block n x s =
     bind (block n s) (λ t r. cond (beginsElse r) (bind (block (n + steps t) (pastElse r)) (λ u q. Ok (branched x t u, q))) (Ok (guarded x t, r)))
 
+-- `while` with n steps counted: a block
 abbrev pub whileOf : (ℕ → Stream → Out Tree) → ℕ → ℕ → Stream → Out Tree
 whileOf block n x s = bind (block n s) (λ t r. Ok (looped x t, r))
 
+-- a step that is counted, by its first token
 abbrev pub stepOn : Kind → ℕ → (ℕ → Stream → Out Tree) → ℕ → First → Stream → Out Tree
 stepOn k d block n (Plain l) s = plainOf k d l s
 stepOn k d block n If s = bind (condAt d s) (ifOf block n)
@@ -79,6 +84,7 @@ abbrev pub stepOf : Kind → ℕ → (ℕ → Stream → Out Tree) → ℕ → S
 stepOf k d block n s =
     bind (firstOf s) (λ x r. cond (ltb n mostSteps) (stepOn k d block (n + 1) (x .1) r) (Err (TooManySteps (x .0))))
 
+-- one step more behind those of a tree
 abbrev pub nextStep : (ℕ → Stream → Out Tree) → ℕ → Tree → Stream → Out Tree
 nextStep step n t s = bind (step (n + steps t) s) (λ u r. Ok (joined t u, r))
 
@@ -86,6 +92,7 @@ nextStep step n t s = bind (step (n + steps t) s) (λ u r. Ok (joined t u, r))
 abbrev pub scriptOf : (ℕ → Stream → Out Tree) → ℕ → Stream → Out Tree
 scriptOf step n s = bind (step n s) (chain Semicolon (nextStep step n))
 
+-- the closing bracket of a block
 abbrev pub closeBlock : Tree → Stream → Out Tree
 closeBlock t s = bind (expected CloseBrace s) (λ p r. Ok (t, r))
 
@@ -98,5 +105,6 @@ blockAt k (suc d) n s = bind (expected OpenBrace s) (λ p r. bind (scriptOf (ste
 abbrev pub stepAt : Kind → ℕ → ℕ → Stream → Out Tree
 stepAt k d = stepOf k d (blockAt k d)
 
+-- a script with so many levels left
 abbrev pub scriptAt : Kind → ℕ → ℕ → Stream → Out Tree
 scriptAt k d = scriptOf (stepAt k d)

@@ -12,5 +12,6 @@ abbrev pub extentOn : List Node → Option Tree → ℕ × ℕ
 extentOn ns None = (0, 0)
 extentOn ns (Some t) = (used ns, orders t)
 
+-- the same of a list
 abbrev pub extentOf : List Node → ℕ × ℕ
 extentOf ns = extentOn ns (scriptIn ns)

@@ -26,6 +26,7 @@ code (branched s l r) = code l ++ (code r ++ (If (record { bits = s }) ∷ []))
 code (guarded s l) = code l ++ (When (record { bits = s }) ∷ [])
 code (looped s l) = code l ++ (While (record { bits = s }) ∷ [])
 
+-- whether a node is blank
 abbrev pub blankNode : Node → Bool
 blankNode Blank = true
 blankNode (Order o) = false
@@ -35,6 +36,7 @@ blankNode (If s) = false
 blankNode (When s) = false
 blankNode (While s) = false
 
+-- whether each node of a list is blank
 abbrev pub allBlank : List Node → Bool
 allBlank [] = true
 allBlank (n ∷ ns) = blankNode n && allBlank ns
@@ -45,10 +47,12 @@ pub record Holds (ns : List Node) (t : Tree) : Type 0 where
   pub nodes : ns ≡ code t ++ rest
   pub blanks : allBlank rest ≡ true
 
+-- the nearest tree changed, if there is one
 abbrev pub one : (Tree → Tree) → List Tree → Option (List Tree)
 one f [] = None
 one f (l ∷ st) = Some (f l ∷ st)
 
+-- the two nearest trees made one, if there are two
 abbrev pub two : (Tree → Tree → Tree) → List Tree → Option (List Tree)
 two f [] = None
 two f (r ∷ []) = None
@@ -70,14 +74,17 @@ alone [] = None
 alone (t ∷ []) = Some t
 alone (t ∷ u ∷ st) = None
 
+-- a tree, if what stands behind it is blank
 abbrev pub whenBlank : Bool → Option Tree → Option Tree
 whenBlank true t = t
 whenBlank false t = None
 
+-- go on with the trees, if there are any
 abbrev pub goOn : (List Tree → Option Tree) → Option (List Tree) → Option Tree
 goOn next None = None
 goOn next (Some st) = next st
 
+-- at a blank node stop, else go on
 abbrev pub parsedOn : Bool → Option Tree → Option Tree → Option Tree
 parsedOn true stop go = stop
 parsedOn false stop go = go
@@ -87,6 +94,7 @@ abbrev pub parsed : List Node → List Tree → Option Tree
 parsed [] st = alone st
 parsed (n ∷ ns) st = parsedOn (blankNode n) (whenBlank (allBlank ns) (alone st)) (goOn (parsed ns) (grown n st))
 
+-- a tree of at most 255 steps
 abbrev pub fewSteps : Option Tree → Option Tree
 fewSteps None = None
 fewSteps (Some t) = cond (leb (steps t) mostSteps) (Some t) None
@@ -99,6 +107,7 @@ scriptIn ns = fewSteps (parsed ns [])
 abbrev pub used : List Node → ℕ
 used ns = leading (λ n. not (blankNode n)) ns
 
+-- the node at a place; behind the list it is blank
 abbrev pub nodeAt : List Node → ℕ → Node
 nodeAt ns i = getD ns i Blank
 

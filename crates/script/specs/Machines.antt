@@ -33,6 +33,7 @@ passes p (If s) = true
 passes p (When s) = true
 passes p (While s) = true
 
+-- the same of each node of a list
 abbrev pub everyNode : (Said → Bool) → List Node → Bool
 everyNode p [] = true
 everyNode p (n ∷ ns) = passes p n && everyNode p ns

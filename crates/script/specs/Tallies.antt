@@ -11,11 +11,12 @@ use Rattle.script.specs.declared.Extent.{Extent}
 use Rattle.script.specs.Trees.{Tree, steps, orders}
 use Rattle.script.specs.Lists.{grown, scriptIn, used}
 
--- the steps and the orders of several trees
+-- the steps of several trees
 abbrev pub totalSteps : List Tree → ℕ
 totalSteps [] = 0
 totalSteps (t ∷ st) = steps t + totalSteps st
 
+-- the orders of several trees
 abbrev pub totalOrders : List Tree → ℕ
 totalOrders [] = 0
 totalOrders (t ∷ st) = orders t + totalOrders st

@@ -43,6 +43,7 @@ before (Lexeme.number p v) s = number p v s
 before (Lexeme.mark p m) s = mark p m s
 before (Lexeme.finish p) s = end p
 
+-- the token that comes next and those behind it, or its fault
 abbrev pub streamOn : (ℕ → Stream) → Result (Lexeme × ℕ) Fault → Stream
 streamOn rest (Ok t) = before (t .0) (rest (t .1))
 streamOn rest (Err f) = bad f
@@ -68,7 +69,7 @@ Took s (Ok (Mark p m)) rest = s ≡ mark p m rest
 Took s (Ok (End p)) rest = s ≡ end p
 Took s (Err f) rest = s ≡ bad f
 
--- whether the mark comes next, and what follows it
+-- whether the mark comes next
 abbrev pub begins : Sign → Stream → Bool
 begins m (end p) = false
 begins m (bad f) = false
@@ -76,6 +77,7 @@ begins m (word p w s) = false
 begins m (number p v s) = false
 begins m (mark p n s) = sameMark m n
 
+-- what follows the mark, if it comes next
 abbrev pub past : Sign → Stream → Stream
 past m (end p) = end p
 past m (bad f) = bad f
@@ -83,7 +85,7 @@ past m (word p w s) = word p w s
 past m (number p v s) = number p v s
 past m (mark p n s) = cond (sameMark m n) s (mark p n s)
 
--- the place of `by`, if it comes next, and what follows it
+-- the place of `by`, if it comes next
 abbrev pub byPlace : Stream → Option ℕ
 byPlace (end p) = None
 byPlace (bad f) = None
@@ -99,6 +101,7 @@ byPlace (word p P s) = None
 byPlace (number p v s) = None
 byPlace (mark p n s) = None
 
+-- what follows `by`, if it comes next
 abbrev pub pastBy : Stream → Stream
 pastBy (end p) = end p
 pastBy (bad f) = bad f
@@ -114,7 +117,7 @@ pastBy (word p P s) = word p P s
 pastBy (number p v s) = number p v s
 pastBy (mark p n s) = mark p n s
 
--- whether `else` comes next, and what follows it
+-- whether `else` comes next
 abbrev pub beginsElse : Stream → Bool
 beginsElse (end p) = false
 beginsElse (bad f) = false
@@ -130,6 +133,7 @@ beginsElse (word p P s) = false
 beginsElse (number p v s) = false
 beginsElse (mark p n s) = false
 
+-- what follows `else`, if it comes next
 abbrev pub pastElse : Stream → Stream
 pastElse (end p) = end p
 pastElse (bad f) = bad f

@@ -55,14 +55,17 @@ numbered p ds = cond (leb (length ds) 3) (cond (leb (decimal ds) 127) (Ok (decim
 abbrev pub runAt : List ℕ → ℕ → (ℕ → Bool) → List ℕ
 runAt text p q = take (leading q (drop p text)) (drop p text)
 
+-- a number token with the position behind it
 abbrev pub withNumber : ℕ → ℕ → Result ℕ Fault → Result (Lexeme × ℕ) Fault
 withNumber p e (Ok v) = Ok (number p v, e)
 withNumber p e (Err f) = Err f
 
+-- a word token with the position behind it
 abbrev pub withWord : ℕ → ℕ → List ℕ → Option Known → Result (Lexeme × ℕ) Fault
 withWord p e letters (Some w) = Ok (word p letters w, e)
 withWord p e letters None = Err (UnknownWord p)
 
+-- a mark token with the position behind it
 abbrev pub withMark : ℕ → Option Sign → Result (Lexeme × ℕ) Fault
 withMark p (Some m) = Ok (mark p m, p + 1)
 withMark p None = Err (StrayByte p)

@@ -14,10 +14,12 @@ use Rattle.trials.specs.declared.escape.Step.the-variants.{On, Byte, Wrong}
 abbrev pub hexOf : ℕ → Option ℕ
 hexOf b = cond (leb 48 b && leb b 57) (Some (b - 48)) (cond (leb 97 b && leb b 102) (Some (b - 97 + 10)) None)
 
+-- the first of two hexadecimal digits
 abbrev pub highOf : Option ℕ → Step
 highOf None = Wrong
 highOf (Some h) = On (HexDigit h)
 
+-- the second of two hexadecimal digits
 abbrev pub lowOf : ℕ → Option ℕ → Step
 lowOf h None = Wrong
 lowOf h (Some l) = Byte ((h * 16 % 256 + l) % 256)

@@ -6,6 +6,7 @@ use lib.Chars.{codes}
 use Rattle.labels.specs.declared.Kind.{Kind}
 use Rattle.labels.specs.declared.Kind.the-variants.{Bare, Measured}
 
+-- the text of the number of a kind
 abbrev pub Numbers : Kind → List ℕ → Type 0
 Numbers Bare field = field ≡ codes "1"
 Numbers Measured field = field ≡ codes "2"

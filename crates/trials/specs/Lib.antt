@@ -1,4 +1,3 @@
 pub mod Escapes
 pub mod Kinds
 pub mod Outcomes
-pub mod Texts

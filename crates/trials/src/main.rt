@@ -1,19 +1,20 @@
-// Compares what the libraries answer with stored outcomes, and tries the bounds of reading.
+// Compares what the libraries answer with stored outcomes.
 use std::alloc::Global;
 use std::error::AnyError;
 use std::fs;
 
-mod bounds;
 mod escape;
 mod outcome;
 mod question;
 
-use bounds::Case;
-use bounds::cases;
+use labels::Kind;
 use outcome::Outcome;
 use outcome::OutcomeDisplay as _;
 use outcome::OutcomePartialEq as _;
 use question::Question;
+use question::read_into;
+use reading::NODE_RECORDS;
+use script::Node;
 
 // How many lines a file has, and how many of them differ.
 #[derive(Clone, Copy)]
@@ -50,28 +51,28 @@ fn compare(rt: &LibcRuntime, file: &str) -> Result<Tally, AnyError> {
     Ok(tally)
 }
 
-// Prints a line for each case at a bound.
-fn try_bounds(rt: &LibcRuntime) -> Result<(), AnyError> {
-    for case in cases() {
-        let Case { name, .. } = case;
-        let outcome = case.outcome(rt.alloc())?;
-        println!(rt, "{name}: {outcome}")?;
+// What reading into a list that is one record short answers.
+fn short_list(heap: Global) -> Result<Outcome, AnyError> {
+    let mut nodes = vec![in heap; Node::Blank; NODE_RECORDS - 1]?;
+    Ok(read_into(Kind::Measured, b"line", &mut nodes[..]))
+}
+
+// Prints how many lines of a file differ; some that do are an error.
+fn report(rt: &LibcRuntime, file: &str) -> Result<(), AnyError> {
+    let Tally { lines, differ } = compare(rt, file)?;
+    println!(rt, "{file}: {lines} lines, {differ} differ")?;
+    if differ > 0 {
+        return Err("some lines differ".into());
     }
     Ok(())
 }
 
 fn work(rt: &LibcRuntime) -> Result<(), AnyError> {
-    try_bounds(rt)?;
-    let reading = compare(rt, "reading.txt")?;
-    let replay = compare(rt, "replay.txt")?;
-    let Tally { lines, differ } = reading;
-    println!(rt, "reading: {lines} lines, {differ} differ")?;
-    let Tally { lines, differ } = replay;
-    println!(rt, "replay: {lines} lines, {differ} differ")?;
-    if reading.differ > 0 || replay.differ > 0 {
-        return Err("some lines differ".into());
-    }
-    Ok(())
+    let short = short_list(rt.alloc())?;
+    println!(rt, "a list one record short: {short}")?;
+    report(rt, "bounds.txt")?;
+    report(rt, "reading.txt")?;
+    report(rt, "replay.txt")
 }
 
 fn main(rt: LibcRuntime) -> Result<(), AnyError> {

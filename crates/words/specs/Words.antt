@@ -34,10 +34,12 @@ keywordOf w =
     (cond (sameBytes w (codes "skip")) (Some Skip) (cond (sameBytes w (codes "stop")) (Some Stop) (cond (sameBytes w (codes "by")) (Some By)
     (cond (sameBytes w (codes "p")) (Some P) None))))))
 
+-- a verb, or else the word
 abbrev pub orVerb : Option OrderVerb → Option Word → Option Word
 orVerb (Some v) k = Some (Verb v)
 orVerb None k = k
 
+-- a test, or else the word
 abbrev pub orTest : Option GalleyTest → Option Word → Option Word
 orTest (Some t) k = Some (Test t)
 orTest None k = k
