@@ -61,20 +61,6 @@ pub struct AtomSet {
 }
 
 impl AtomSet {
-    // The set that a number stands for.
-    pub fn from_bits(bits: u64) -> AtomSet
-        ensures { λ r. ⌜ r .bits ≡ bits ⌝ }
-    {
-        AtomSet { bits }
-    }
-
-    // The number that stands for the set.
-    pub fn bits(self) -> u64
-        ensures { λ r. ⌜ r ≡ self .bits ⌝ }
-    {
-        self.bits
-    }
-
     // The set of no atom.
     pub fn empty() -> AtomSet
         ensures is { λ r. ⌜ r .bits ≡ 0 ⌝ }

@@ -76,7 +76,7 @@ impl Class {
 
 impl Mark {
     // The byte that writes the mark.
-    pub fn byte(self) -> u8
+    fn byte(self) -> u8
         ensures { λ r. ⌜ r ≡ markByte self ⌝ }
     {
         match self {
