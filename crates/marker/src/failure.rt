@@ -63,7 +63,7 @@ pub impl From<Wrong> for Failure as FailureFromWrong {
 
 impl Failure {
     // A file that cannot be read.
-    pub fn unreadable(name: String) -> Failure
+    pub(crate) fn unreadable(name: String) -> Failure
         ensures { λ r. ⌜ r ≡ Failure.File name Cause.Unreadable None ⌝ }
     {
         Failure::File {
@@ -74,7 +74,7 @@ impl Failure {
     }
 
     // The cause at a file, with the spot of a refusal in its text.
-    pub fn of(name: String, cause: Cause, text: &[u8]) -> Failure
+    pub(crate) fn of(name: String, cause: Cause, text: &[u8]) -> Failure
         ensures { λ r. ⌜ ((s : Optional Spot) × (r ≡ Failure.File name cause s) × Spotted cause (now (text .entry)) s) ⌝ }
     {
         let spot = spot_of(cause, text);

@@ -110,7 +110,11 @@ impl fmt::Display for Outcome as OutcomeDisplay {
 }
 
 // A line for each move that the machine makes over the atoms from its start, and how the run ends.
-pub fn replay<M: Machine>(heap: Global, machine: &M, atoms: &[u8]) -> Result<String, AllocError>
+pub(crate) fn replay<M: Machine>(
+    heap: Global,
+    machine: &M,
+    atoms: &[u8],
+) -> Result<String, AllocError>
 where
     M::Label: Spelled,
 {

@@ -63,7 +63,7 @@ impl Escape {
 }
 
 // The bytes that an escaped text stands for.
-pub fn unescape(heap: Global, text: &[u8]) -> Result<Vec<u8>, AnyError>
+pub(crate) fn unescape(heap: Global, text: &[u8]) -> Result<Vec<u8>, AnyError>
     ensures { λ r. ⌜ made r (λ v. unescaped (now (text .entry)) ≡ Some (vec-items v)) ⌝ }
 {
     let mut bytes = Vec::new(heap);

@@ -24,7 +24,7 @@ pub enum Outcome {
 
 impl Outcome {
     // A refusal.
-    pub fn refused(fault: Fault) -> Outcome
+    pub(crate) fn refused(fault: Fault) -> Outcome
         ensures { λ r. ⌜ r ≡ Outcome.Refused (numberOf fault) (layerOf fault) (placeOf fault) ⌝ }
     {
         Outcome::Refused {
@@ -35,7 +35,7 @@ impl Outcome {
     }
 
     // How a run ended.
-    pub fn ended(ending: Ending) -> Outcome
+    pub(crate) fn ended(ending: Ending) -> Outcome
         ensures { λ r. ⌜ r ≡ outcomeOf ending ⌝ }
     {
         match ending {
@@ -47,7 +47,7 @@ impl Outcome {
     }
 
     // The outcome that the fields of a line store; how many steps a script has is not compared.
-    pub fn parse(fields: &[&str]) -> Result<Outcome, AnyError> {
+    pub(crate) fn parse(fields: &[&str]) -> Result<Outcome, AnyError> {
         match fields {
             ["ok", size, _] => Ok(Outcome::Read(size.parse::<usize>()?)),
             ["refused", number, layer, place] => Ok(Outcome::Refused {

@@ -73,7 +73,7 @@ fn atoms_of(heap: Global, field: &str) -> Result<Vec<u8>, AnyError>
 
 impl Question {
     // The question of a line's fields, and the fields behind it.
-    pub fn of<'a, 'b>(
+    pub(crate) fn of<'a, 'b>(
         heap: Global,
         fields: &'a [&'b str],
     ) -> Result<(Question, &'a [&'b str]), AnyError> {
@@ -104,7 +104,7 @@ impl Question {
     }
 
     // What the libraries answer.
-    pub fn answer(&self, heap: Global) -> Result<Outcome, AnyError> {
+    pub(crate) fn answer(&self, heap: Global) -> Result<Outcome, AnyError> {
         let mut nodes = vec![in heap; Node::Blank; NODE_RECORDS]?;
         if let Err(fault) = read(self.kind, self.text.as_slice(), &mut nodes[..]) {
             return Ok(Outcome::refused(fault));
@@ -126,7 +126,7 @@ fn task_on<L: Label>(nodes: &[Node], task: &Task) -> Outcome {
 }
 
 // What reading answers: the size of the script's machine, or a refusal.
-pub fn read_into(kind: Kind, text: &[u8], nodes: &mut [Node]) -> Outcome
+pub(crate) fn read_into(kind: Kind, text: &[u8], nodes: &mut [Node]) -> Outcome
     ensures { λ r. ⌜ ((f : Failing) → readAs kind (now (text .entry)) (now (nodes .entry)) ≡ Err f → r ≡ Outcome.Refused (numberOf f) (layerOf f) (placeOf f)) ⌝ }
 {
     match read(kind, text, nodes) {
