@@ -1,4 +1,6 @@
 // What the text of a script answers: the size of its machine, and the moves that it makes on a list of atoms.
+#![tactic(auto)]
+
 ghost use Rattle.std.specs.Prelude.{◌≡◌, length, IfOk, Ok, Err};
 ghost use Rattle.reading.specs.Drafts.{node_records};
 ghost use Rattle.answers.specs.declared.Cause.TheVariants.{Refused, Memory};

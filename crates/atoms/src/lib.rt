@@ -1,4 +1,6 @@
 // The six tests of a galley, atoms (which of the tests hold), and sets of atoms.
+#![tactic(auto)]
+
 ghost use Rattle.std.specs.Prelude.{◌≡◌, ℕ, ◌-◌, ◌<◌, Bool, true, false, not, ◌&&◌, ◌||◌, MatchOption, bit_and, bit_or, nat_lt};
 ghost use Rattle.atoms.specs.Atoms.{atoms, weight_of, holds_at};
 ghost use Rattle.atoms.specs.Sets.{member, counted, Least, every, set_of};

@@ -1,4 +1,6 @@
 // Moves, labels, machines, faults, and runs of a machine over a list of atoms.
+#![tactic(auto)]
+
 ghost use Rattle.std.specs.Prelude.{◌≡◌, ℕ, ◌<◌, ◌≤◌, Bool, true, ◌⊎◌, List, length, Option as Optional, MatchOption};
 ghost use Rattle.atoms.specs.Atoms.{atoms};
 ghost use Rattle.automata.specs.declared.Move.{Move};

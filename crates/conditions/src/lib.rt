@@ -1,4 +1,6 @@
 // Conditions: the sets of atoms that they stand for.
+#![tactic(auto)]
+
 ghost use Rattle.std.specs.Prelude.{◌≡◌, ◌+◌, Ok, Err};
 ghost use Rattle.automata.specs.declared.Fault.TheVariants.{TooDeep};
 ghost use Rattle.tokens.specs.Streams.{left};

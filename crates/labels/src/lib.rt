@@ -1,9 +1,11 @@
 // Verbs, orders, and the two kinds of label: bare and measured.
+#![tactic(auto)]
+
 ghost use Rattle.std.specs.Prelude.{◌≡◌, pos};
 ghost use Rattle.labels.specs.declared.Order.{Order as Said};
 ghost use Rattle.labels.specs.Verbs.{byte_of, verb_of, name_of};
 ghost use Rattle.labels.specs.Kinds.{order_bytes, same_verb, alike_bare, made_bare, written_bare, said_bare, measure_of, alike_measured, made_measured, written_measured, said_measured, kind_number, has_measure};
-ghost use Rattle.std.proofs.Common.{rules, arith};
+ghost use Rattle.std.proofs.Common.{rules};
 ghost use Rattle.labels.specs.Labels.{alike_through, measured_same};
 
 use automata::Label;
@@ -239,15 +241,15 @@ impl Label for Measured {
 
     ghost written = { written_measured };
 
-    ghost byte = { first_of (Prim.search rules, Prim.grind (arith, Self.row.coded.inj)) };
+    ghost byte = { Prim.search rules };
 
-    ghost reflexive = { first_of (Prim.search rules, Prim.grind (arith, Self.row.coded.inj)) };
+    ghost reflexive = { Prim.search rules };
 
-    ghost symmetric = { first_of (Prim.search rules, Prim.grind (arith, Self.row.coded.inj)) };
+    ghost symmetric = { Prim.search rules };
 
     ghost transitive = { alike_through };
 
-    ghost three = { first_of (Prim.search rules, Prim.grind (arith, Self.row.coded.inj)) };
+    ghost three = { Prim.search rules };
 
     ghost back = { measured_same };
 

@@ -1,4 +1,6 @@
 // The marker: runs and checks make-up scripts.
+#![tactic(auto)]
+
 ghost use Rattle.std.specs.Prelude.{◌≡◌};
 ghost use Rattle.marker.specs.Answers.{Answered, FileAnswered};
 ghost use Rattle.marker.specs.Files.{table_head};

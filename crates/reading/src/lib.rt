@@ -1,4 +1,6 @@
 // The grammar of scripts, by recursive descent into a lent node list.
+#![tactic(auto)]
+
 ghost use Rattle.std.specs.Prelude.{◌≡◌, ℕ, ◌+◌, ◌-◌, ◌<◌, ◌≤◌, ◌++◌, length, take, replicate, Ok, Err};
 ghost use Rattle.script.specs.declared.node.Node.TheVariants.{Blank};
 ghost use Rattle.script.specs.Lists.{most_steps};

@@ -1,4 +1,6 @@
 // What the words of a command line ask for, and places in a text.
+#![tactic(auto)]
+
 ghost use Rattle.std.specs.Prelude.{◌≡◌};
 ghost use Rattle.requests.specs.declared.Wrong.TheVariants.{Memory};
 

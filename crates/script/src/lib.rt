@@ -1,4 +1,6 @@
 // The node list of a script, and the machine that walks it.
+#![tactic(auto)]
+
 ghost use Rattle.std.specs.Prelude.{◌≡◌, ℕ, ◌+◌, ◌^◌, ◌<◌, ◌≤◌, true, false, ltb, List, length, drop, IfSome, if◌then◌else◌, Some, None};
 ghost use Rattle.atoms.specs.Sets.{member, every};
 ghost use Rattle.automata.specs.declared.Move.TheVariants.{Accept, Reject};

@@ -1,4 +1,6 @@
 // Tokens of a script, and the reader that hands them out.
+#![tactic(auto)]
+
 ghost use Rattle.std.specs.Prelude.{◌≡◌, ◌+◌, ◌≤◌, length, drop, IfOk, Some, None, Ok, Err};
 ghost use Rattle.std.specs.List.{prefix_len};
 ghost use Rattle.tokens.specs.Classes.{has_of, mark_byte, mark_of, same_mark};

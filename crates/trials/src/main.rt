@@ -1,4 +1,6 @@
 // Compares what the libraries answer with stored outcomes.
+#![tactic(auto)]
+
 ghost use Rattle.std.specs.Prelude.{◌≡◌, ◌+◌, ◌-◌, ◌^◌, map, IfOk, if◌then◌else◌, nat_lt};
 ghost use Rattle.automata.specs.declared.Fault.TheVariants.{ShortBuffer};
 ghost use Rattle.trials.specs.Questions.{refused_by};

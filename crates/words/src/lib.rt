@@ -1,4 +1,6 @@
 // The known words of scripts.
+#![tactic(auto)]
+
 ghost use Rattle.std.specs.Prelude.{◌≡◌, Decides};
 ghost use Rattle.words.specs.Words.{test_of, verb_of, keyword_of, word_of};
 

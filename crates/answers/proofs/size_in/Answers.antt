@@ -3,11 +3,11 @@ use Rattle.answers.proofs.size_in.Goals as goal
 
 pub returns : goal.returns
 returns g c =
-    let t = c.in-ok-read.ensures.0 in (
+    let t = c.in_ok-read.ensures.0 in (
       t,
       _,
       _,
-      text_is c.args.kind c.args.text.now c.args.nodes.now _ c.requires c.in-ok-read.ensures.1,
-      machine_of_list g.L.Label t c.args.nodes.now _ _ _ c.requires c.in-ok-read.ensures.2 c.of.ensures,
+      text_is c.args.kind c.args.text.now c.args.nodes.now _ c.requires c.in_ok-read.ensures.1,
+      machine_of_list g.L.Label t c.args.nodes.now _ _ _ c.requires c.in_ok-read.ensures.2 c.of.ensures,
       c.size.ensures,
     )

@@ -9,112 +9,112 @@ use Rattle.conditions.proofs.Eats.{and_eats, or_eats, term_eats, factor_eats}
 use Rattle.conditions.proofs.Conds.{turn, fall, done, left_less, with_one, without, going, factor_fails, factor_set, factor_deep_not, factor_deep_group, factor_not, factor_group, told_err}
 use Rattle.conditions.proofs.+cond_factor_term.Goals as goal
 
-pub cond-returns-in-err-term : goal.cond-returns-in-err-term
-cond-returns-in-err-term t c =
-    let p = err_from_is_err_and c.from-residual-in-err-term.result c.from-residual-in-err-term.ensures.1 in
-    told_err _ _ _ c.in-err-term.field-0.0 (p.1 ∙ ap Err p.2)
-    (going (term_of (factor_at c.args.levels) (left c.args.reader.now)) (chain Or (or_part (term_of (factor_at c.args.levels)))) c.in-ok-set.set.bits (left c.term.new.reader) c.in-ok-set.ensures
+pub cond-returns-in_err-term : goal.cond-returns-in_err-term
+cond-returns-in_err-term t c =
+    let p = err_from_is_err_and c.from_residual-in_err-term.result c.from_residual-in_err-term.ensures.1 in
+    told_err _ _ _ c.in_err-term.field-0.0 (p.1 ∙ ap Err p.2)
+    (going (term_of (factor_at c.args.levels) (left c.args.reader.now)) (chain Or (or_part (term_of (factor_at c.args.levels)))) c.in_ok-set.set.bits (left c.term.new.reader) c.in_ok-set.ensures
     ∙ sym c.loop-set.invariant
-    ∙ fall Or (or_part (term_of (factor_at c.args.levels))) (or_eats (factor_at c.args.levels) (factor_eats c.args.levels)) c.loop-set.set.bits (left c.loop-set.reader) (left c.accept.new.self) c.loop-set-test.ensures.is c.loop-set-test.ensures.rest c.in-err-term.field-0.0
-    (without (term_of (factor_at c.args.levels) (left c.accept.new.self)) _ c.in-err-term.field-0.0 c.in-err-term.ensures))
+    ∙ fall Or (or_part (term_of (factor_at c.args.levels))) (or_eats (factor_at c.args.levels) (factor_eats c.args.levels)) c.loop-set.set.bits (left c.loop-set.reader) (left c.accept.new.self) c.loop-set-test.ensures.is c.loop-set-test.ensures.rest c.in_err-term.field-0.0
+    (without (term_of (factor_at c.args.levels) (left c.accept.new.self)) _ c.in_err-term.field-0.0 c.in_err-term.ensures))
 
 pub cond-loop-set-smaller : goal.cond-loop-set-smaller
 cond-loop-set-smaller t c =
     let a = left_less Or (left c.loop-set.reader) (left c.accept.new.self) c.loop-set-test.ensures.is c.loop-set-test.ensures.rest in
-    let b = term_eats (factor_at c.args.levels) (factor_eats c.args.levels) (left c.accept.new.self) c.in-ok-term.field-0.bits (left c.term-in-loop-set.new.reader) c.in-ok-term.ensures in
+    let b = term_eats (factor_at c.args.levels) (factor_eats c.args.levels) (left c.accept.new.self) c.in_ok-term.field-0.bits (left c.term-in-loop-set.new.reader) c.in_ok-term.ensures in
     omega arith
 
 pub cond-loop-set-preserved : goal.cond-loop-set-preserved
 cond-loop-set-preserved t c =
     sym (turn Or (or_part (term_of (factor_at c.args.levels))) (or_eats (factor_at c.args.levels) (factor_eats c.args.levels)) c.loop-set.set.bits (left c.loop-set.reader) (left c.accept.new.self) c.loop-set-test.ensures.is c.loop-set-test.ensures.rest c.union-set.result.bits (left c.term-in-loop-set.new.reader)
-    (with_one (term_of (factor_at c.args.levels)) (bit_or c.loop-set.set.bits) (left c.accept.new.self) c.in-ok-term.field-0.bits (left c.term-in-loop-set.new.reader) c.union-set.result.bits c.in-ok-term.ensures c.union-set.ensures.is))
+    (with_one (term_of (factor_at c.args.levels)) (bit_or c.loop-set.set.bits) (left c.accept.new.self) c.in_ok-term.field-0.bits (left c.term-in-loop-set.new.reader) c.union-set.result.bits c.in_ok-term.ensures c.union-set.ensures.is))
     ∙ c.loop-set.invariant
 
 pub cond-returns : goal.cond-returns
 cond-returns t c =
-    going (term_of (factor_at c.args.levels) (left c.args.reader.now)) (chain Or (or_part (term_of (factor_at c.args.levels)))) c.in-ok-set.set.bits (left c.term.new.reader) c.in-ok-set.ensures
+    going (term_of (factor_at c.args.levels) (left c.args.reader.now)) (chain Or (or_part (term_of (factor_at c.args.levels)))) c.in_ok-set.set.bits (left c.term.new.reader) c.in_ok-set.ensures
     ∙ sym c.loop-set.invariant
     ∙ done Or (or_part (term_of (factor_at c.args.levels))) (or_eats (factor_at c.args.levels) (factor_eats c.args.levels)) c.loop-set.set.bits (left c.loop-set.reader) (left c.accept.new.self) c.loop-set-test.ensures.is c.loop-set-test.ensures.rest
 
-pub term-returns-in-err-factor : goal.term-returns-in-err-factor
-term-returns-in-err-factor t c =
-    let p = err_from_is_err_and c.from-residual-in-err-factor.result c.from-residual-in-err-factor.ensures.1 in
-    told_err _ _ _ c.in-err-factor.field-0.0 (p.1 ∙ ap Err p.2)
-    (going (factor_at c.args.levels (left c.args.reader.now)) (chain And (and_part (factor_at c.args.levels))) c.in-ok-set.set.bits (left c.factor.new.reader) c.in-ok-set.ensures
+pub term-returns-in_err-factor : goal.term-returns-in_err-factor
+term-returns-in_err-factor t c =
+    let p = err_from_is_err_and c.from_residual-in_err-factor.result c.from_residual-in_err-factor.ensures.1 in
+    told_err _ _ _ c.in_err-factor.field-0.0 (p.1 ∙ ap Err p.2)
+    (going (factor_at c.args.levels (left c.args.reader.now)) (chain And (and_part (factor_at c.args.levels))) c.in_ok-set.set.bits (left c.factor.new.reader) c.in_ok-set.ensures
     ∙ sym c.loop-set.invariant
-    ∙ fall And (and_part (factor_at c.args.levels)) (and_eats (factor_at c.args.levels) (factor_eats c.args.levels)) c.loop-set.set.bits (left c.loop-set.reader) (left c.accept.new.self) c.loop-set-test.ensures.is c.loop-set-test.ensures.rest c.in-err-factor.field-0.0
-    (without (factor_at c.args.levels (left c.accept.new.self)) _ c.in-err-factor.field-0.0 c.in-err-factor.ensures))
+    ∙ fall And (and_part (factor_at c.args.levels)) (and_eats (factor_at c.args.levels) (factor_eats c.args.levels)) c.loop-set.set.bits (left c.loop-set.reader) (left c.accept.new.self) c.loop-set-test.ensures.is c.loop-set-test.ensures.rest c.in_err-factor.field-0.0
+    (without (factor_at c.args.levels (left c.accept.new.self)) _ c.in_err-factor.field-0.0 c.in_err-factor.ensures))
 
 pub term-loop-set-smaller : goal.term-loop-set-smaller
 term-loop-set-smaller t c =
     let a = left_less And (left c.loop-set.reader) (left c.accept.new.self) c.loop-set-test.ensures.is c.loop-set-test.ensures.rest in
-    let b = factor_eats c.args.levels (left c.accept.new.self) c.in-ok-factor.field-0.bits (left c.factor-in-loop-set.new.reader) c.in-ok-factor.ensures in
+    let b = factor_eats c.args.levels (left c.accept.new.self) c.in_ok-factor.field-0.bits (left c.factor-in-loop-set.new.reader) c.in_ok-factor.ensures in
     omega arith
 
 pub term-loop-set-preserved : goal.term-loop-set-preserved
 term-loop-set-preserved t c =
     sym (turn And (and_part (factor_at c.args.levels)) (and_eats (factor_at c.args.levels) (factor_eats c.args.levels)) c.loop-set.set.bits (left c.loop-set.reader) (left c.accept.new.self) c.loop-set-test.ensures.is c.loop-set-test.ensures.rest c.intersection-set.result.bits (left c.factor-in-loop-set.new.reader)
-    (with_one (factor_at c.args.levels) (bit_and c.loop-set.set.bits) (left c.accept.new.self) c.in-ok-factor.field-0.bits (left c.factor-in-loop-set.new.reader) c.intersection-set.result.bits c.in-ok-factor.ensures c.intersection-set.ensures.is))
+    (with_one (factor_at c.args.levels) (bit_and c.loop-set.set.bits) (left c.accept.new.self) c.in_ok-factor.field-0.bits (left c.factor-in-loop-set.new.reader) c.intersection-set.result.bits c.in_ok-factor.ensures c.intersection-set.ensures.is))
     ∙ c.loop-set.invariant
 
 pub term-returns : goal.term-returns
 term-returns t c =
-    going (factor_at c.args.levels (left c.args.reader.now)) (chain And (and_part (factor_at c.args.levels))) c.in-ok-set.set.bits (left c.factor.new.reader) c.in-ok-set.ensures
+    going (factor_at c.args.levels (left c.args.reader.now)) (chain And (and_part (factor_at c.args.levels))) c.in_ok-set.set.bits (left c.factor.new.reader) c.in_ok-set.ensures
     ∙ sym c.loop-set.invariant
     ∙ done And (and_part (factor_at c.args.levels)) (and_eats (factor_at c.args.levels) (factor_eats c.args.levels)) c.loop-set.set.bits (left c.loop-set.reader) (left c.accept.new.self) c.loop-set-test.ensures.is c.loop-set-test.ensures.rest
 
-pub factor-returns-in-err-set : goal.factor-returns-in-err-set
-factor-returns-in-err-set t c =
-    let p = err_from_is_err_and c.from-residual.result c.from-residual.ensures.1 in
-    told_err _ _ _ c.in-err-set.field-0.0 (p.1 ∙ ap Err p.2) (factor_fails c.args.levels (left c.args.reader.now) _ c.in-err-set.ensures)
+pub factor-returns-in_err-set : goal.factor-returns-in_err-set
+factor-returns-in_err-set t c =
+    let p = err_from_is_err_and c.from_residual.result c.from_residual.ensures.1 in
+    told_err _ _ _ c.in_err-set.field-0.0 (p.1 ∙ ap Err p.2) (factor_fails c.args.levels (left c.args.reader.now) _ c.in_err-set.ensures)
 
-pub factor-returns-in-err-below : goal.factor-returns-in-err-below
-factor-returns-in-err-below t c =
-    let p = err_from_is_err_and c.from-residual-in-err-below.result c.from-residual-in-err-below.ensures.1 in
-    let d = c.in-err-below.ensures in
-    told_err _ _ _ c.in-err-below.field-0.0 (p.1 ∙ ap Err p.2)
-    (factor_deep_not c.args.levels (left c.args.reader.now) c.in-Not.place (left c.first-operand.new.reader) (c.in-ok-set.ensures ∙ ap (λ o. Ok (o, left c.first-operand.new.reader)) c.in-Not.is) d.0 ∙ ap Err (sym d.1))
+pub factor-returns-in_err-below : goal.factor-returns-in_err-below
+factor-returns-in_err-below t c =
+    let p = err_from_is_err_and c.from_residual-in_err-below.result c.from_residual-in_err-below.ensures.1 in
+    let d = c.in_err-below.ensures in
+    told_err _ _ _ c.in_err-below.field-0.0 (p.1 ∙ ap Err p.2)
+    (factor_deep_not c.args.levels (left c.args.reader.now) c.in-Not.place (left c.first_operand.new.reader) (c.in_ok-set.ensures ∙ ap (λ o. Ok (o, left c.first_operand.new.reader)) c.in-Not.is) d.0 ∙ ap Err (sym d.1))
 
-pub factor-returns-in-err-factor : goal.factor-returns-in-err-factor
-factor-returns-in-err-factor t c =
-    let p = err_from_is_err_and c.from-residual-in-err-factor.result c.from-residual-in-err-factor.ensures.1 in
-    told_err _ _ _ c.in-err-factor.field-0.0 (p.1 ∙ ap Err p.2)
-    (factor_not c.args.levels (left c.args.reader.now) c.in-Not.place (left c.first-operand.new.reader) (c.in-ok-set.ensures ∙ ap (λ o. Ok (o, left c.first-operand.new.reader)) c.in-Not.is) c.in-ok-below.below c.in-ok-below.ensures
-    ∙ without (factor_at c.in-ok-below.below (left c.first-operand.new.reader)) _ _ c.in-err-factor.ensures)
+pub factor-returns-in_err-factor : goal.factor-returns-in_err-factor
+factor-returns-in_err-factor t c =
+    let p = err_from_is_err_and c.from_residual-in_err-factor.result c.from_residual-in_err-factor.ensures.1 in
+    told_err _ _ _ c.in_err-factor.field-0.0 (p.1 ∙ ap Err p.2)
+    (factor_not c.args.levels (left c.args.reader.now) c.in-Not.place (left c.first_operand.new.reader) (c.in_ok-set.ensures ∙ ap (λ o. Ok (o, left c.first_operand.new.reader)) c.in-Not.is) c.in_ok-below.below c.in_ok-below.ensures
+    ∙ without (factor_at c.in_ok-below.below (left c.first_operand.new.reader)) _ _ c.in_err-factor.ensures)
 
-pub factor-returns-in-err-below-2 : goal.factor-returns-in-err-below-2
-factor-returns-in-err-below-2 t c =
-    let p = err_from_is_err_and c.from-residual-in-err-below-2.result c.from-residual-in-err-below-2.ensures.1 in
-    let d = c.in-err-below-2.ensures in
-    told_err _ _ _ c.in-err-below-2.field-0.0 (p.1 ∙ ap Err p.2)
-    (factor_deep_group c.args.levels (left c.args.reader.now) c.in-Group.place (left c.first-operand.new.reader) (c.in-ok-set.ensures ∙ ap (λ o. Ok (o, left c.first-operand.new.reader)) c.in-Group.is) d.0 ∙ ap Err (sym d.1))
+pub factor-returns-in_err-below-2 : goal.factor-returns-in_err-below-2
+factor-returns-in_err-below-2 t c =
+    let p = err_from_is_err_and c.from_residual-in_err-below-2.result c.from_residual-in_err-below-2.ensures.1 in
+    let d = c.in_err-below-2.ensures in
+    told_err _ _ _ c.in_err-below-2.field-0.0 (p.1 ∙ ap Err p.2)
+    (factor_deep_group c.args.levels (left c.args.reader.now) c.in-Group.place (left c.first_operand.new.reader) (c.in_ok-set.ensures ∙ ap (λ o. Ok (o, left c.first_operand.new.reader)) c.in-Group.is) d.0 ∙ ap Err (sym d.1))
 
-pub factor-returns-in-err-set-2 : goal.factor-returns-in-err-set-2
-factor-returns-in-err-set-2 t c =
-    let p = err_from_is_err_and c.from-residual-in-err-set-2.result c.from-residual-in-err-set-2.ensures.1 in
-    told_err _ _ _ c.in-err-set-2.field-0.0 (p.1 ∙ ap Err p.2)
-    (factor_group c.args.levels (left c.args.reader.now) c.in-Group.place (left c.first-operand.new.reader) (c.in-ok-set.ensures ∙ ap (λ o. Ok (o, left c.first-operand.new.reader)) c.in-Group.is) c.in-ok-below-2.below c.in-ok-below-2.ensures
-    ∙ without (cond_at c.in-ok-below-2.below (left c.first-operand.new.reader)) _ _ c.in-err-set-2.ensures)
+pub factor-returns-in_err-set-2 : goal.factor-returns-in_err-set-2
+factor-returns-in_err-set-2 t c =
+    let p = err_from_is_err_and c.from_residual-in_err-set-2.result c.from_residual-in_err-set-2.ensures.1 in
+    told_err _ _ _ c.in_err-set-2.field-0.0 (p.1 ∙ ap Err p.2)
+    (factor_group c.args.levels (left c.args.reader.now) c.in-Group.place (left c.first_operand.new.reader) (c.in_ok-set.ensures ∙ ap (λ o. Ok (o, left c.first_operand.new.reader)) c.in-Group.is) c.in_ok-below-2.below c.in_ok-below-2.ensures
+    ∙ without (cond_at c.in_ok-below-2.below (left c.first_operand.new.reader)) _ _ c.in_err-set-2.ensures)
 
-pub factor-returns-in-err-expect : goal.factor-returns-in-err-expect
-factor-returns-in-err-expect t c =
-    let p = err_from_is_err_and c.from-residual-in-err-expect.result c.from-residual-in-err-expect.ensures.1 in
-    told_err _ _ _ c.in-err-expect.field-0.0 (p.1 ∙ ap Err p.2)
-    (factor_group c.args.levels (left c.args.reader.now) c.in-Group.place (left c.first-operand.new.reader) (c.in-ok-set.ensures ∙ ap (λ o. Ok (o, left c.first-operand.new.reader)) c.in-Group.is) c.in-ok-below-2.below c.in-ok-below-2.ensures
-    ∙ going (cond_at c.in-ok-below-2.below (left c.first-operand.new.reader)) close_group c.in-ok-set-2.set.bits (left c.cond.new.reader) c.in-ok-set-2.ensures
-    ∙ without _ _ _ c.in-err-expect.ensures.told)
+pub factor-returns-in_err-expect : goal.factor-returns-in_err-expect
+factor-returns-in_err-expect t c =
+    let p = err_from_is_err_and c.from_residual-in_err-expect.result c.from_residual-in_err-expect.ensures.1 in
+    told_err _ _ _ c.in_err-expect.field-0.0 (p.1 ∙ ap Err p.2)
+    (factor_group c.args.levels (left c.args.reader.now) c.in-Group.place (left c.first_operand.new.reader) (c.in_ok-set.ensures ∙ ap (λ o. Ok (o, left c.first_operand.new.reader)) c.in-Group.is) c.in_ok-below-2.below c.in_ok-below-2.ensures
+    ∙ going (cond_at c.in_ok-below-2.below (left c.first_operand.new.reader)) close_group c.in_ok-set-2.set.bits (left c.cond.new.reader) c.in_ok-set-2.ensures
+    ∙ without _ _ _ c.in_err-expect.ensures.told)
 
 pub factor-returns-in-Set : goal.factor-returns-in-Set
-factor-returns-in-Set t c = factor_set c.args.levels (left c.args.reader.now) c.in-Set.set (left c.first-operand.new.reader) (c.in-ok-set.ensures ∙ ap (λ o. Ok (o, left c.first-operand.new.reader)) c.in-Set.is)
+factor-returns-in-Set t c = factor_set c.args.levels (left c.args.reader.now) c.in-Set.set (left c.first_operand.new.reader) (c.in_ok-set.ensures ∙ ap (λ o. Ok (o, left c.first_operand.new.reader)) c.in-Set.is)
 
-pub factor-returns-in-ok-factor : goal.factor-returns-in-ok-factor
-factor-returns-in-ok-factor t c =
-    factor_not c.args.levels (left c.args.reader.now) c.in-Not.place (left c.first-operand.new.reader) (c.in-ok-set.ensures ∙ ap (λ o. Ok (o, left c.first-operand.new.reader)) c.in-Not.is) c.in-ok-below.below c.in-ok-below.ensures
-    ∙ going (factor_at c.in-ok-below.below (left c.first-operand.new.reader)) _ c.in-ok-factor.field-0.bits (left c.factor.new.reader) c.in-ok-factor.ensures
+pub factor-returns-in_ok-factor : goal.factor-returns-in_ok-factor
+factor-returns-in_ok-factor t c =
+    factor_not c.args.levels (left c.args.reader.now) c.in-Not.place (left c.first_operand.new.reader) (c.in_ok-set.ensures ∙ ap (λ o. Ok (o, left c.first_operand.new.reader)) c.in-Not.is) c.in_ok-below.below c.in_ok-below.ensures
+    ∙ going (factor_at c.in_ok-below.below (left c.first_operand.new.reader)) _ c.in_ok-factor.field-0.bits (left c.factor.new.reader) c.in_ok-factor.ensures
     ∙ ap (λ (v : ℕ). Ok (v, left c.factor.new.reader)) (sym c.complement.ensures.is)
 
-pub factor-returns-in-ok-expect : goal.factor-returns-in-ok-expect
-factor-returns-in-ok-expect t c =
-    factor_group c.args.levels (left c.args.reader.now) c.in-Group.place (left c.first-operand.new.reader) (c.in-ok-set.ensures ∙ ap (λ o. Ok (o, left c.first-operand.new.reader)) c.in-Group.is) c.in-ok-below-2.below c.in-ok-below-2.ensures
-    ∙ going (cond_at c.in-ok-below-2.below (left c.first-operand.new.reader)) close_group c.in-ok-set-2.set.bits (left c.cond.new.reader) c.in-ok-set-2.ensures
-    ∙ going _ _ _ _ c.in-ok-expect.ensures.told
+pub factor-returns-in_ok-expect : goal.factor-returns-in_ok-expect
+factor-returns-in_ok-expect t c =
+    factor_group c.args.levels (left c.args.reader.now) c.in-Group.place (left c.first_operand.new.reader) (c.in_ok-set.ensures ∙ ap (λ o. Ok (o, left c.first_operand.new.reader)) c.in-Group.is) c.in_ok-below-2.below c.in_ok-below-2.ensures
+    ∙ going (cond_at c.in_ok-below-2.below (left c.first_operand.new.reader)) close_group c.in_ok-set-2.set.bits (left c.cond.new.reader) c.in_ok-set-2.ensures
+    ∙ going _ _ _ _ c.in_ok-expect.ensures.told

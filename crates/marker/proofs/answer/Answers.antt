@@ -3,29 +3,29 @@ use Rattle.std.proofs.lemmas.Result.{err_from_is_err_and}
 use Rattle.marker.proofs.Answering.{refusal_is, answered_refused, answered_memory}
 use Rattle.marker.proofs.answer.Goals as goal
 
-pub returns-in-err-read : goal.returns-in-err-read
-returns-in-err-read g c =
-    let p = err_from_is_err_and c.from-residual-in-err-read.result c.from-residual-in-err-read.ensures.1 in
-    let w : 1024 ≤ length c.deref-mut.result.now = search rules in
-    answered_refused c.args.kind c.args.text.now _ c.in-err-read.field-0.0 (p.1 ∙ ap Err p.2)
-    (refusal_is c.args.kind c.args.text.now c.deref-mut.result.now _ w c.in-err-read.ensures.0)
+pub returns-in_err-read : goal.returns-in_err-read
+returns-in_err-read g c =
+    let p = err_from_is_err_and c.from_residual-in_err-read.result c.from_residual-in_err-read.ensures.1 in
+    let w : 1024 ≤ length c.deref_mut.result.now = search rules in
+    answered_refused c.args.kind c.args.text.now _ c.in_err-read.field-0.0 (p.1 ∙ ap Err p.2)
+    (refusal_is c.args.kind c.args.text.now c.deref_mut.result.now _ w c.in_err-read.ensures.0)
 
-pub returns-in-err-format : goal.returns-in-err-format
-returns-in-err-format g c =
-    let p = err_from_is_err_and c.from-residual-in-err-format.result c.from-residual-in-err-format.ensures.1 in
+pub returns-in_err-format : goal.returns-in_err-format
+returns-in_err-format g c =
+    let p = err_from_is_err_and c.from_residual-in_err-format.result c.from_residual-in_err-format.ensures.1 in
     answered_memory c.args.kind c.args.text.now _ (p.1 ∙ ap Err p.2)
 
 pub returns-in-Check : goal.returns-in-Check
 returns-in-Check g c =
-    let w : 1024 ≤ length c.deref-mut.result.now = search rules in
-    refusal_is c.args.kind c.args.text.now c.deref-mut.result.now _ w c.in-ok-read.ensures.1
+    let w : 1024 ≤ length c.deref_mut.result.now = search rules in
+    refusal_is c.args.kind c.args.text.now c.deref_mut.result.now _ w c.in_ok-read.ensures.1
 
-pub returns-in-err-replay : goal.returns-in-err-replay
-returns-in-err-replay g c =
-    let p = err_from_is_err_and c.from-residual-in-err-replay.result c.from-residual-in-err-replay.ensures.1 in
+pub returns-in_err-replay : goal.returns-in_err-replay
+returns-in_err-replay g c =
+    let p = err_from_is_err_and c.from_residual-in_err-replay.result c.from_residual-in_err-replay.ensures.1 in
     answered_memory c.args.kind c.args.text.now _ (p.1 ∙ ap Err p.2)
 
 pub returns : goal.returns
 returns g c =
-    let w : 1024 ≤ length c.deref-mut.result.now = search rules in
-    refusal_is c.args.kind c.args.text.now c.deref-mut.result.now _ w c.in-ok-read.ensures.1
+    let w : 1024 ≤ length c.deref_mut.result.now = search rules in
+    refusal_is c.args.kind c.args.text.now c.deref_mut.result.now _ w c.in_ok-read.ensures.1

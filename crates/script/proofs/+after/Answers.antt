@@ -132,10 +132,10 @@ returns-in-Accept t c =
     after_one c.args.nodes.now c.args.atom c.args.end c.args.count c.args.k (looped c.in-While.set.bits) (λ u i. of_while _ i _ c.in-While.set c.in-While.is u) (λ l. refl) _ Accept c.in-Accept.ensures
     (λ l i n h w v x. c.enter.ensures l i n h v ∙ ap (λ (m : Move Said). then_move m (again c.in-While.set.bits c.args.atom l n)) x)
 
-pub returns-in-default : goal.returns-in-default
-returns-in-default t c =
+pub returns-in_default : goal.returns-in_default
+returns-in_default t c =
     after_one c.args.nodes.now c.args.atom c.args.end c.args.count c.args.k (looped c.in-While.set.bits) (λ u i. of_while _ i _ c.in-While.set c.in-While.is u) (λ l. refl) _ c.after-in-While.result c.after-in-While.ensures
-    (λ l i n h w v x. sym (then_rest c.after-in-While.result (again c.in-While.set.bits c.args.atom l n) c.in-default.not-Accept) ∙ ap (λ (m : Move Said). then_move m (again c.in-While.set.bits c.args.atom l n)) x)
+    (λ l i n h w v x. sym (then_rest c.after-in-While.result (again c.in-While.set.bits c.args.atom l n) c.in_default.not-Accept) ∙ ap (λ (m : Move Said). then_move m (again c.in-While.set.bits c.args.atom l n)) x)
 
 pub unreachable-requires : goal.unreachable-requires
 unreachable-requires t c = of_blank c.args.nodes.now c.requires.tree.1 c.args.end c.in-Blank.is c.requires.tree.0 c.requires.tree.3

@@ -6,5 +6,5 @@ use Rattle.trials.proofs.short_list.Goals as goal
 
 pub returns : goal.returns
 returns c =
-    let n : length c.deref-mut.result.now ≡ 1023 = search rules in
-    c.refused.ensures ∙ ap refused_by (short_refused Measured (codes "line") c.deref-mut.result.now c.in-Err.fault n c.in-Err.ensures.0)
+    let n : length c.deref_mut.result.now ≡ 1023 = search rules in
+    c.refused.ensures ∙ ap refused_by (short_refused Measured (codes "line") c.deref_mut.result.now c.in-Err.fault n c.in-Err.ensures.0)

@@ -11,24 +11,24 @@ loop-i-preserved-then-word-i-ne43 c = (
       ∙ c.loop-i.invariant.2,
 )
 
-pub returns-in-err-atom : goal.returns-in-err-atom
-returns-in-err-atom c =
-    c.from-residual.ensures
-    ∙ sym (plus_more c.loop-i.atom c.args.word.now c.loop-i.start c.loop-i.i None c.loop-i-test.true (eq-eqb _ _ c.if-word-i-ne43.false) c.in-err-atom.ensures.is)
+pub returns-in_err-atom : goal.returns-in_err-atom
+returns-in_err-atom c =
+    c.from_residual.ensures
+    ∙ sym (plus_more c.loop-i.atom c.args.word.now c.loop-i.start c.loop-i.i None c.loop-i-test.true (eq-eqb _ _ c.if-word-i-ne43.false) c.in_err-atom.ensures.is)
     ∙ c.loop-i.invariant.2
 
 pub loop-i-preserved : goal.loop-i-preserved
 loop-i-preserved c = (
   omega arith,
-  c.in-ok-atom.ensures.small,
-  sym (plus_more c.loop-i.atom c.args.word.now c.loop-i.start c.loop-i.i (Some c.in-ok-atom.atom) c.loop-i-test.true (eq-eqb _ _ c.if-word-i-ne43.false) c.in-ok-atom.ensures.is)
+  c.in_ok-atom.ensures.small,
+  sym (plus_more c.loop-i.atom c.args.word.now c.loop-i.start c.loop-i.i (Some c.in_ok-atom.atom) c.loop-i-test.true (eq-eqb _ _ c.if-word-i-ne43.false) c.in_ok-atom.ensures.is)
       ∙ c.loop-i.invariant.2,
 )
 
 pub returns : goal.returns
 returns c =
     let e : length c.args.word.now ≡ c.loop-i.i = omega arith in
-    c.with-test-2.ensures.is
+    c.with_test-2.ensures.is
     ∙ ap (λ k. joined c.loop-i.atom (test_in (part c.args.word.now c.loop-i.start k))) e
     ∙ sym (tests_all c.loop-i.atom c.args.word.now (part c.args.word.now c.loop-i.start c.loop-i.i) c.loop-i.i c.loop-i-test.false)
     ∙ c.loop-i.invariant.2

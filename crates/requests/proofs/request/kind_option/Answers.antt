@@ -2,11 +2,11 @@ use Rattle.std.proofs.Common.{◌∷◌, sym, ap, ◌∙◌}
 use Rattle.requests.specs.Words.{kind_of}
 use Rattle.requests.proofs.request.kind_option.Goals as goal
 
-pub returns-in-Some-kind-of : goal.returns-in-Some-kind-of
-returns-in-Some-kind-of c = (
+pub returns-in-Some-kind_of : goal.returns-in-Some-kind_of
+returns-in-Some-kind_of c = (
   c.in-Some.option.now,
-  c.in-Some-split-first.number.now,
-  c.in-Some.ensures.cases.0 ∙ ap (λ rest. c.in-Some.option.now ∷ rest) c.in-Some-split-first.ensures.cases.0,
-  sym c.as-str.ensures.value ∙ c.eq.ensures.0 c.if-eq.true,
-  ap kind_of (sym c.as-str-in-Some.ensures.value) ∙ sym c.in-Some-kind-of.ensures,
+  c.in-Some-split_first.number.now,
+  c.in-Some.ensures.cases.0 ∙ ap (λ rest. c.in-Some.option.now ∷ rest) c.in-Some-split_first.ensures.cases.0,
+  sym c.as_str.ensures.value ∙ c.eq.ensures.0 c.if-eq.true,
+  ap kind_of (sym c.as_str-in-Some.ensures.value) ∙ sym c.in-Some-kind_of.ensures,
 )

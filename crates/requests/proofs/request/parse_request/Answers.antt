@@ -6,17 +6,17 @@ use Rattle.requests.proofs.request.parse_request.Goals as goal
 
 pub returns : goal.returns
 returns c =
-    let P : List ℕ → Type 0 = λ bytes. Commanded bytes c.in-Some-split-first.rest.now c.in-ok-command.command in
+    let P : List ℕ → Type 0 = λ bytes. Commanded bytes c.in-Some-split_first.rest.now c.in_ok-command.command in
     record {
-      before = c.in-ok-before.before;
-      after = c.in-ok-after.after;
+      before = c.in_ok-before.before;
+      after = c.in_ok-after.after;
       name = c.in-Some.name.now;
-      file = c.in-Some-split-first.file.now;
+      file = c.in-Some-split_first.file.now;
       behind = c.in-Some.rest.now;
-      rest = c.in-Some-split-first.rest.now;
-      first = kinded_as c.args.words.now c.in-ok-before.before c.in-ok-before.rest.now _ c.in-ok-before.ensures c.in-Some.ensures.cases.0;
-      second = kinded_as c.in-Some.rest.now c.in-ok-after.after c.in-ok-after.rest.now _ c.in-ok-after.ensures c.in-Some-split-first.ensures.cases.0;
-      kind = c.unwrap-or-kind.ensures ∙ ap (λ o. unwrap_or o Measured) c.or.ensures;
-      command = subst P c.as-str.ensures.value c.in-ok-command.ensures;
-      reads = c.in-ok-clone.ensures.cases;
+      rest = c.in-Some-split_first.rest.now;
+      first = kinded_as c.args.words.now c.in_ok-before.before c.in_ok-before.rest.now _ c.in_ok-before.ensures c.in-Some.ensures.cases.0;
+      second = kinded_as c.in-Some.rest.now c.in_ok-after.after c.in_ok-after.rest.now _ c.in_ok-after.ensures c.in-Some-split_first.ensures.cases.0;
+      kind = c.unwrap_or-kind.ensures ∙ ap (λ o. unwrap_or o Measured) c.or.ensures;
+      command = subst P c.as_str.ensures.value c.in_ok-command.ensures;
+      reads = c.in_ok-clone.ensures.cases;
     }

@@ -6,5 +6,5 @@ use Rattle.tokens.proofs.lent.Reader.expect_number.Goals as goal
 
 pub returns-in-Number : goal.returns-in-Number
 returns-in-Number c =
-    let e = c.in-ok-value.ensures.told ∙ ap (λ (t : Token). Ok (lexeme t, c.next.new.self.at)) c.in-Number.is in
+    let e = c.in_ok-value.ensures.told ∙ ap (λ (t : Token). Ok (lexeme t, c.next.new.self.at)) c.in-Number.is in
     record { told = search rules; small = number_small _ _ _ _ _ (search rules) e; kept = search rules }

@@ -5,24 +5,24 @@ use Rattle.trials.proofs.outcome.Outcome.parse.Goals as goal
 pub returns-in-accepted : goal.returns-in-accepted
 returns-in-accepted c = named_1 c.args.fields.now _ (search rules) c.in-accepted.is-accepted
 
-pub returns-in-ok-number : goal.returns-in-ok-number
-returns-in-ok-number c =
-    (field c.args.fields.now 1, named_2 c.args.fields.now _ (search rules) c.in-rejected.is-rejected, c.in-ok-number.ensures)
+pub returns-in_ok-number : goal.returns-in_ok-number
+returns-in_ok-number c =
+    (field c.args.fields.now 1, named_2 c.args.fields.now _ (search rules) c.in-rejected.is-rejected, c.in_ok-number.ensures)
 
-pub returns-in-ok-number-2 : goal.returns-in-ok-number-2
-returns-in-ok-number-2 c =
-    (field c.args.fields.now 1, named_2 c.args.fields.now _ (search rules) c.in-early.is-early, c.in-ok-number-2.ensures)
+pub returns-in_ok-number-2 : goal.returns-in_ok-number-2
+returns-in_ok-number-2 c =
+    (field c.args.fields.now 1, named_2 c.args.fields.now _ (search rules) c.in-early.is-early, c.in_ok-number-2.ensures)
 
-pub returns-in-ok-number-3 : goal.returns-in-ok-number-3
-returns-in-ok-number-3 c =
-    (field c.args.fields.now 1, named_2 c.args.fields.now _ (search rules) c.in-out.is-out, c.in-ok-number-3.ensures)
+pub returns-in_ok-number-3 : goal.returns-in_ok-number-3
+returns-in_ok-number-3 c =
+    (field c.args.fields.now 1, named_2 c.args.fields.now _ (search rules) c.in-out.is-out, c.in_ok-number-3.ensures)
 
-pub returns-in-ok-number-4 : goal.returns-in-ok-number-4
-returns-in-ok-number-4 c =
-    (field c.args.fields.now 1, field c.args.fields.now 2, named_3 c.args.fields.now _ (search rules) c.in-ok.is_ok, c.in-ok-number-4.ensures)
+pub returns-in_ok-number-4 : goal.returns-in_ok-number-4
+returns-in_ok-number-4 c =
+    (field c.args.fields.now 1, field c.args.fields.now 2, named_3 c.args.fields.now _ (search rules) c.in_ok.is_ok, c.in_ok-number-4.ensures)
 
-pub returns-in-ok-number-5 : goal.returns-in-ok-number-5
-returns-in-ok-number-5 c =
+pub returns-in_ok-number-5 : goal.returns-in_ok-number-5
+returns-in_ok-number-5 c =
     let fs = c.args.fields.now in (
       field fs 1,
       field fs 2,
@@ -30,9 +30,9 @@ returns-in-ok-number-5 c =
       _,
       _,
       named_4 fs _ (search rules) c.in-refused.is-refused,
-      c.in-ok-byte.ensures,
+      c.in_ok-byte.ensures,
       refl,
-      c.in-ok-byte-2.ensures,
+      c.in_ok-byte-2.ensures,
       refl,
-      c.in-ok-number-5.ensures,
+      c.in_ok-number-5.ensures,
     )
