@@ -4,5 +4,4 @@ pub mod Says
 pub mod Decode
 pub mod Tallies
 pub mod Moves
-pub mod MachineLaws
 pub mod Suits

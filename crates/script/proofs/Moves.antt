@@ -11,7 +11,8 @@ use Rattle.script.specs.Trees.{Tree, steps, orders, expr_of}
 use Rattle.script.specs.Lists.{most_steps, parsed, few_steps, script_in, used, Holds, Placed}
 use Rattle.script.specs.Extents.{extent_on, extent_of}
 use Rattle.script.specs.Machines.{script_move}
-use Rattle.script.proofs.Parts.{orders_expr, some}
+use Rattle.script.specs.MachineLaws.{orders_expr}
+use Rattle.script.proofs.Parts.{some}
 use Rattle.script.proofs.Decode.{parsed_holds, holds_parsed, holds_placed, holds_used, holds_within}
 
 pub no_tree : {t : Tree} → ◌≡◌ {A = Option Tree} None (Some t) → ⊥

@@ -8,14 +8,6 @@ use Rattle.script.specs.declared.node.Node.TheVariants.{Blank, Order, Test, Sequ
 use Rattle.script.specs.Trees.{Tree, ordered, tested, joined, branched, guarded, looped, orders, expr_of}
 use Rattle.script.specs.Lists.{node_at, Placed}
 
-pub orders_expr : (t : Tree) → orders_in (expr_of t) ≡ orders t
-orders_expr (ordered o) = refl
-orders_expr (tested s) = refl
-orders_expr (joined l r) = let a = orders_expr l in let b = orders_expr r in omega arith
-orders_expr (branched s l r) = let a = orders_expr l in let b = orders_expr r in omega arith
-orders_expr (guarded s l) = let a = orders_expr l in omega arith
-orders_expr (looped s l) = orders_expr l
-
 -- the last node of a tree
 abbrev pub top_of : Tree → Node
 top_of (ordered o) = Order o

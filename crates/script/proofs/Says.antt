@@ -11,7 +11,8 @@ use Rattle.script.specs.declared.node.Node.TheVariants.{Blank, Order, Test, Sequ
 use Rattle.script.specs.Trees.{Tree, ordered, tested, joined, branched, guarded, looped, orders, expr_of}
 use Rattle.script.specs.Lists.{node_at, Placed}
 use Rattle.std.proofs.lemmas.Bool.{le-leb, lt-leb}
-use Rattle.script.proofs.Parts.{orders_expr, of_order, of_test, of_sequence, of_if, of_when, of_while, Two, One}
+use Rattle.script.specs.MachineLaws.{orders_expr}
+use Rattle.script.proofs.Parts.{of_order, of_test, of_sequence, of_if, of_when, of_while, Two, One}
 
 -- the first move of the tree that ends before e, its start, and the orders before it
 abbrev pub Says : List Node → ℕ → ℕ → ℕ → Move Said → ℕ → ℕ → Type 0

@@ -3,3 +3,4 @@ pub mod Lists
 pub mod Extents
 pub mod Tallies
 pub mod Machines
+pub mod MachineLaws

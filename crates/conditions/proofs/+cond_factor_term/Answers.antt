@@ -68,53 +68,53 @@ factor-returns-in_err-set t c =
     let p = err_from_is_err_and c.from_residual.result c.from_residual.ensures.1 in
     told_err _ _ _ c.in_err-set.field-0.0 (p.1 ∙ ap Err p.2) (factor_fails c.args.levels (left c.args.reader.now) _ c.in_err-set.ensures)
 
-pub factor-returns-in_err-below : goal.factor-returns-in_err-below
-factor-returns-in_err-below t c =
-    let p = err_from_is_err_and c.from_residual-in_err-below.result c.from_residual-in_err-below.ensures.1 in
-    let d = c.in_err-below.ensures in
-    told_err _ _ _ c.in_err-below.field-0.0 (p.1 ∙ ap Err p.2)
+pub factor-returns-in_err-below-in-Not : goal.factor-returns-in_err-below-in-Not
+factor-returns-in_err-below-in-Not t c =
+    let p = err_from_is_err_and c.from_residual-in_err-below-in-Not.result c.from_residual-in_err-below-in-Not.ensures.1 in
+    let d = c.in_err-below-in-Not.ensures in
+    told_err _ _ _ c.in_err-below-in-Not.field-0.0 (p.1 ∙ ap Err p.2)
     (factor_deep_not c.args.levels (left c.args.reader.now) c.in-Not.place (left c.first_operand.new.reader) (c.in_ok-set.ensures ∙ ap (λ o. Ok (o, left c.first_operand.new.reader)) c.in-Not.is) d.0 ∙ ap Err (sym d.1))
 
-pub factor-returns-in_err-factor : goal.factor-returns-in_err-factor
-factor-returns-in_err-factor t c =
-    let p = err_from_is_err_and c.from_residual-in_err-factor.result c.from_residual-in_err-factor.ensures.1 in
-    told_err _ _ _ c.in_err-factor.field-0.0 (p.1 ∙ ap Err p.2)
-    (factor_not c.args.levels (left c.args.reader.now) c.in-Not.place (left c.first_operand.new.reader) (c.in_ok-set.ensures ∙ ap (λ o. Ok (o, left c.first_operand.new.reader)) c.in-Not.is) c.in_ok-below.below c.in_ok-below.ensures
-    ∙ without (factor_at c.in_ok-below.below (left c.first_operand.new.reader)) _ _ c.in_err-factor.ensures)
+pub factor-returns-in_err-factor-in-Not : goal.factor-returns-in_err-factor-in-Not
+factor-returns-in_err-factor-in-Not t c =
+    let p = err_from_is_err_and c.from_residual-in_err-factor-in-Not.result c.from_residual-in_err-factor-in-Not.ensures.1 in
+    told_err _ _ _ c.in_err-factor-in-Not.field-0.0 (p.1 ∙ ap Err p.2)
+    (factor_not c.args.levels (left c.args.reader.now) c.in-Not.place (left c.first_operand.new.reader) (c.in_ok-set.ensures ∙ ap (λ o. Ok (o, left c.first_operand.new.reader)) c.in-Not.is) c.in_ok-below-in-Not.below c.in_ok-below-in-Not.ensures
+    ∙ without (factor_at c.in_ok-below-in-Not.below (left c.first_operand.new.reader)) _ _ c.in_err-factor-in-Not.ensures)
 
-pub factor-returns-in_err-below-2 : goal.factor-returns-in_err-below-2
-factor-returns-in_err-below-2 t c =
-    let p = err_from_is_err_and c.from_residual-in_err-below-2.result c.from_residual-in_err-below-2.ensures.1 in
-    let d = c.in_err-below-2.ensures in
-    told_err _ _ _ c.in_err-below-2.field-0.0 (p.1 ∙ ap Err p.2)
+pub factor-returns-in_err-below-in-Group : goal.factor-returns-in_err-below-in-Group
+factor-returns-in_err-below-in-Group t c =
+    let p = err_from_is_err_and c.from_residual-in_err-below-in-Group.result c.from_residual-in_err-below-in-Group.ensures.1 in
+    let d = c.in_err-below-in-Group.ensures in
+    told_err _ _ _ c.in_err-below-in-Group.field-0.0 (p.1 ∙ ap Err p.2)
     (factor_deep_group c.args.levels (left c.args.reader.now) c.in-Group.place (left c.first_operand.new.reader) (c.in_ok-set.ensures ∙ ap (λ o. Ok (o, left c.first_operand.new.reader)) c.in-Group.is) d.0 ∙ ap Err (sym d.1))
 
-pub factor-returns-in_err-set-2 : goal.factor-returns-in_err-set-2
-factor-returns-in_err-set-2 t c =
-    let p = err_from_is_err_and c.from_residual-in_err-set-2.result c.from_residual-in_err-set-2.ensures.1 in
-    told_err _ _ _ c.in_err-set-2.field-0.0 (p.1 ∙ ap Err p.2)
-    (factor_group c.args.levels (left c.args.reader.now) c.in-Group.place (left c.first_operand.new.reader) (c.in_ok-set.ensures ∙ ap (λ o. Ok (o, left c.first_operand.new.reader)) c.in-Group.is) c.in_ok-below-2.below c.in_ok-below-2.ensures
-    ∙ without (cond_at c.in_ok-below-2.below (left c.first_operand.new.reader)) _ _ c.in_err-set-2.ensures)
+pub factor-returns-in_err-set-in-Group : goal.factor-returns-in_err-set-in-Group
+factor-returns-in_err-set-in-Group t c =
+    let p = err_from_is_err_and c.from_residual-in_err-set-in-Group.result c.from_residual-in_err-set-in-Group.ensures.1 in
+    told_err _ _ _ c.in_err-set-in-Group.field-0.0 (p.1 ∙ ap Err p.2)
+    (factor_group c.args.levels (left c.args.reader.now) c.in-Group.place (left c.first_operand.new.reader) (c.in_ok-set.ensures ∙ ap (λ o. Ok (o, left c.first_operand.new.reader)) c.in-Group.is) c.in_ok-below-in-Group.below c.in_ok-below-in-Group.ensures
+    ∙ without (cond_at c.in_ok-below-in-Group.below (left c.first_operand.new.reader)) _ _ c.in_err-set-in-Group.ensures)
 
-pub factor-returns-in_err-expect : goal.factor-returns-in_err-expect
-factor-returns-in_err-expect t c =
-    let p = err_from_is_err_and c.from_residual-in_err-expect.result c.from_residual-in_err-expect.ensures.1 in
-    told_err _ _ _ c.in_err-expect.field-0.0 (p.1 ∙ ap Err p.2)
-    (factor_group c.args.levels (left c.args.reader.now) c.in-Group.place (left c.first_operand.new.reader) (c.in_ok-set.ensures ∙ ap (λ o. Ok (o, left c.first_operand.new.reader)) c.in-Group.is) c.in_ok-below-2.below c.in_ok-below-2.ensures
-    ∙ going (cond_at c.in_ok-below-2.below (left c.first_operand.new.reader)) close_group c.in_ok-set-2.set.bits (left c.cond.new.reader) c.in_ok-set-2.ensures
-    ∙ without _ _ _ c.in_err-expect.ensures.told)
+pub factor-returns-in_err-expect-in-Group : goal.factor-returns-in_err-expect-in-Group
+factor-returns-in_err-expect-in-Group t c =
+    let p = err_from_is_err_and c.from_residual-in_err-expect-in-Group.result c.from_residual-in_err-expect-in-Group.ensures.1 in
+    told_err _ _ _ c.in_err-expect-in-Group.field-0.0 (p.1 ∙ ap Err p.2)
+    (factor_group c.args.levels (left c.args.reader.now) c.in-Group.place (left c.first_operand.new.reader) (c.in_ok-set.ensures ∙ ap (λ o. Ok (o, left c.first_operand.new.reader)) c.in-Group.is) c.in_ok-below-in-Group.below c.in_ok-below-in-Group.ensures
+    ∙ going (cond_at c.in_ok-below-in-Group.below (left c.first_operand.new.reader)) close_group c.in_ok-set-in-Group.set.bits (left c.cond.new.reader) c.in_ok-set-in-Group.ensures
+    ∙ without _ _ _ c.in_err-expect-in-Group.ensures.told)
 
 pub factor-returns-in-Set : goal.factor-returns-in-Set
 factor-returns-in-Set t c = factor_set c.args.levels (left c.args.reader.now) c.in-Set.set (left c.first_operand.new.reader) (c.in_ok-set.ensures ∙ ap (λ o. Ok (o, left c.first_operand.new.reader)) c.in-Set.is)
 
-pub factor-returns-in_ok-factor : goal.factor-returns-in_ok-factor
-factor-returns-in_ok-factor t c =
-    factor_not c.args.levels (left c.args.reader.now) c.in-Not.place (left c.first_operand.new.reader) (c.in_ok-set.ensures ∙ ap (λ o. Ok (o, left c.first_operand.new.reader)) c.in-Not.is) c.in_ok-below.below c.in_ok-below.ensures
-    ∙ going (factor_at c.in_ok-below.below (left c.first_operand.new.reader)) _ c.in_ok-factor.field-0.bits (left c.factor.new.reader) c.in_ok-factor.ensures
+pub factor-returns-in_ok-factor-in-Not : goal.factor-returns-in_ok-factor-in-Not
+factor-returns-in_ok-factor-in-Not t c =
+    factor_not c.args.levels (left c.args.reader.now) c.in-Not.place (left c.first_operand.new.reader) (c.in_ok-set.ensures ∙ ap (λ o. Ok (o, left c.first_operand.new.reader)) c.in-Not.is) c.in_ok-below-in-Not.below c.in_ok-below-in-Not.ensures
+    ∙ going (factor_at c.in_ok-below-in-Not.below (left c.first_operand.new.reader)) _ c.in_ok-factor-in-Not.field-0.bits (left c.factor.new.reader) c.in_ok-factor-in-Not.ensures
     ∙ ap (λ (v : ℕ). Ok (v, left c.factor.new.reader)) (sym c.complement.ensures.is)
 
-pub factor-returns-in_ok-expect : goal.factor-returns-in_ok-expect
-factor-returns-in_ok-expect t c =
-    factor_group c.args.levels (left c.args.reader.now) c.in-Group.place (left c.first_operand.new.reader) (c.in_ok-set.ensures ∙ ap (λ o. Ok (o, left c.first_operand.new.reader)) c.in-Group.is) c.in_ok-below-2.below c.in_ok-below-2.ensures
-    ∙ going (cond_at c.in_ok-below-2.below (left c.first_operand.new.reader)) close_group c.in_ok-set-2.set.bits (left c.cond.new.reader) c.in_ok-set-2.ensures
-    ∙ going _ _ _ _ c.in_ok-expect.ensures.told
+pub factor-returns-in_ok-expect-in-Group : goal.factor-returns-in_ok-expect-in-Group
+factor-returns-in_ok-expect-in-Group t c =
+    factor_group c.args.levels (left c.args.reader.now) c.in-Group.place (left c.first_operand.new.reader) (c.in_ok-set.ensures ∙ ap (λ o. Ok (o, left c.first_operand.new.reader)) c.in-Group.is) c.in_ok-below-in-Group.below c.in_ok-below-in-Group.ensures
+    ∙ going (cond_at c.in_ok-below-in-Group.below (left c.first_operand.new.reader)) close_group c.in_ok-set-in-Group.set.bits (left c.cond.new.reader) c.in_ok-set-in-Group.ensures
+    ∙ going _ _ _ _ c.in_ok-expect-in-Group.ensures.told

@@ -10,8 +10,8 @@ use Rattle.script.proofs.Parts.{some, of_blank, of_order, of_sequence, of_if, of
 use Rattle.script.proofs.Says.{says_order, says_test, says_two, says_one}
 use Rattle.script.proofs.+first.Goals as goal
 
-pub overflow-sub-result-in-Order : goal.overflow-sub-result-in-Order
-overflow-sub-result-in-Order t c =
+pub overflow_sub-result-in-Order : goal.overflow_sub-result-in-Order
+overflow_sub-result-in-Order t c =
     let p = of_order c.args.nodes.now c.requires.tree.1 c.args.end c.in-Order.order c.in-Order.is c.requires.tree.0 c.requires.tree.3 in
     let a = ap orders p.0 in
     let b = c.requires.tree.4 in

@@ -7,5 +7,5 @@ use Rattle.script.proofs.machine.ScriptMachine+Script+L.of.Goals as goal
 
 pub returns : goal.returns
 returns g c =
-    subst (λ (xs : List Node). MachineOf g.row.L-Label c.args.nodes.now (size_in c.all_suit.result (script_in xs)) (moves_in g.row.L-Label c.all_suit.result (script_in xs)))
-    (sym c.of.ensures) (machine_of g.row.L-Label c.args.nodes.now c.all_suit.result c.all_suit.ensures)
+    subst (λ (xs : List Node). MachineOf g.L.Label c.args.nodes.now (size_in c.all_suit.result (script_in xs)) (moves_in g.L.Label c.all_suit.result (script_in xs)))
+    (sym c.of.ensures) (machine_of g.L.Label c.args.nodes.now c.all_suit.result c.all_suit.ensures)

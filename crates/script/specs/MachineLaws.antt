@@ -7,9 +7,17 @@ use Rattle.automata.specs.declared.Move.TheVariants.{Accept, Reject, Step}
 use Rattle.automata.specs.Walks.{orders_in, machine_move, labelled}
 use Rattle.automata.proofs.Targets.{Within, within_step, move_within, labelled_within, move_outside}
 use Rattle.labels.specs.declared.Order.{Order as Said}
-use Rattle.script.specs.Trees.{Tree, orders, expr_of}
+use Rattle.script.specs.Trees.{Tree, ordered, tested, joined, branched, guarded, looped, orders, expr_of}
 use Rattle.script.specs.Machines.{label_of, size_on, script_move, stands, size_in, moves_in}
-use Rattle.script.proofs.Parts.{orders_expr}
+
+-- a tree's expression has as many orders as the tree
+pub orders_expr : (t : Tree) → orders_in (expr_of t) ≡ orders t
+orders_expr (ordered o) = refl
+orders_expr (tested s) = refl
+orders_expr (joined l r) = let a = orders_expr l in let b = orders_expr r in omega arith
+orders_expr (branched s l r) = let a = orders_expr l in let b = orders_expr r in omega arith
+orders_expr (guarded s l) = let a = orders_expr l in omega arith
+orders_expr (looped s l) = orders_expr l
 
 no_step : {L : Type 0} (l : L) (t : ℕ) → ◌≡◌ {A = Move L} Reject (Step l t) → ⊥
 no_step l t e = let z : ◌≡◌ {A = ℕ} 0 1 = cc in omega arith
