@@ -143,19 +143,19 @@ script-returns t c =
 pub step-push-requires-in-While : goal.step-push-requires-in-While
 step-push-requires-in-While t c =
     let k = c.in_ok-counted.ensures in
-    let w = c.in_ok-body.ensures in
-    fits c.block.new.nodes c.in_ok-body.body
-    (room_after c.args.nodes.now c.block.new.nodes c.in_ok-counted.counted c.in_ok-body.body w.0 (room_counted c.args.nodes.now c.args.from c.in_ok-counted.counted c.requires k.0 k.1 k.2) c.block.auto.nodes w.2)
+    let w = c.in_ok-body-in-While.ensures in
+    fits c.block.new.nodes c.in_ok-body-in-While.body
+    (room_after c.args.nodes.now c.block.new.nodes c.in_ok-counted.counted c.in_ok-body-in-While.body w.0 (room_counted c.args.nodes.now c.args.from c.in_ok-counted.counted c.requires k.0 k.1 k.2) c.block.auto.nodes w.2)
 
-pub step-returns-in_ok-body : goal.step-returns-in_ok-body
-step-returns-in_ok-body t c =
+pub step-returns-in_ok-body-in-While : goal.step-returns-in_ok-body-in-While
+step-returns-in_ok-body-in-While t c =
     let k = c.in_ok-counted.ensures in
     let n = k.1 in
-    let w = c.in_ok-body.ensures in (
-      looped c.in_ok-set-2.set.bits w.0,
+    let w = c.in_ok-body-in-While.ensures in (
+      looped c.in_ok-set-in-While.set.bits w.0,
       step_in c.args.kind c.args.levels c.args.from.steps (left c.args.reader.now) c.in_ok-place.place c.in_ok-place.first (left c.first_token.new.reader) c.in_ok-place.ensures k.0
           ∙ ap (λ (f : First). step_on c.args.kind c.args.levels (block_at c.args.kind c.args.levels) (c.args.from.steps + 1) f (left c.first_token.new.reader)) c.in-While.is
-          ∙ going (cond_at c.args.levels (left c.first_token.new.reader)) (while_of (block_at c.args.kind c.args.levels) (c.args.from.steps + 1)) c.in_ok-set-2.set.bits (left c.cond-in-While.new.reader) c.in_ok-set-2.ensures
+          ∙ going (cond_at c.args.levels (left c.first_token.new.reader)) (while_of (block_at c.args.kind c.args.levels) (c.args.from.steps + 1)) c.in_ok-set-in-While.set.bits (left c.cond-in-While.new.reader) c.in_ok-set-in-While.ensures
           ∙ going (block_at c.args.kind c.args.levels (c.args.from.steps + 1) (left c.cond-in-While.new.reader)) _ w.0 (left c.block.new.reader) (ap (λ (v : ℕ). block_at c.args.kind c.args.levels v (left c.cond-in-While.new.reader)) (sym n) ∙ w.1),
-      store_one 0 (looped c.in_ok-set-2.set.bits) (While c.in_ok-set-2.set) w.0 refl refl c.args.nodes.now c.block.new.nodes c.push-in-While.new.nodes c.args.from c.in_ok-counted.counted c.in_ok-body.body c.push-in-While.result k.2 (omega arith) w.2 c.push-in-While.ensures,
+      store_one 0 (looped c.in_ok-set-in-While.set.bits) (While c.in_ok-set-in-While.set) w.0 refl refl c.args.nodes.now c.block.new.nodes c.push-in-While.new.nodes c.args.from c.in_ok-counted.counted c.in_ok-body-in-While.body c.push-in-While.result k.2 (omega arith) w.2 c.push-in-While.ensures,
     )

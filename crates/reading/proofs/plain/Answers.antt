@@ -13,18 +13,18 @@ use Rattle.reading.proofs.plain.Goals as goal
 same_set : (x : AtomSet) (n : ℕ) → x.bits ≡ n → Test (record { bits = n }) ∷ [] ≡ Test x ∷ []
 same_set x n e = ap (λ (v : ℕ). Test (record { bits = v }) ∷ []) (sym e)
 
-pub returns-in_ok-order_after : goal.returns-in_ok-order_after
-returns-in_ok-order_after c = (
-  ordered c.in_ok-order_after.field-0,
-  ap (λ (l : Leaf). plain_of c.args.kind c.args.levels l (left c.args.reader.now)) c.in-Verb.is ∙ going _ _ _ _ c.in_ok-order_after.ensures,
+pub returns-in_ok-order_after-in-Verb : goal.returns-in_ok-order_after-in-Verb
+returns-in_ok-order_after-in-Verb c = (
+  ordered c.in_ok-order_after-in-Verb.field-0,
+  ap (λ (l : Leaf). plain_of c.args.kind c.args.levels l (left c.args.reader.now)) c.in-Verb.is ∙ going _ _ _ _ c.in_ok-order_after-in-Verb.ensures,
   refl,
   refl,
 )
 
-pub returns-in_ok-expect : goal.returns-in_ok-expect
-returns-in_ok-expect c = (
-  tested c.in_ok-set.set.bits,
-  ap (λ (l : Leaf). plain_of c.args.kind c.args.levels l (left c.args.reader.now)) c.in-Test.is ∙ going _ _ _ _ c.in_ok-set.ensures ∙ going _ _ _ _ c.in_ok-expect.ensures.told,
+pub returns-in_ok-expect-in-Test : goal.returns-in_ok-expect-in-Test
+returns-in_ok-expect-in-Test c = (
+  tested c.in_ok-set-in-Test.set.bits,
+  ap (λ (l : Leaf). plain_of c.args.kind c.args.levels l (left c.args.reader.now)) c.in-Test.is ∙ going _ _ _ _ c.in_ok-set-in-Test.ensures ∙ going _ _ _ _ c.in_ok-expect-in-Test.ensures.told,
   refl,
   refl,
 )
