@@ -1,5 +1,5 @@
 -- The moves of a run, atom by atom.
-use Rattle.std.proofs.Common.{◌≡◌, ℕ, ◌+◌, ◌<◌, ◌≤◌, List, [], ◌∷◌, ◌++◌, length, get_or, drop, sym, refl, ap, ◌∙◌, append_assoc, append_nil}
+use Rattle.std.proofs.Common.{◌≡◌, ℕ, ◌+◌, ◌<◌, ◌≤◌, List, [], ◌∷◌, ◌++◌, length, get_or, drop, sym, refl, ap, ◌∙◌, append_assoc, append-nil}
 use Rattle.std.proofs.lemmas.List.{at_drop_more, at_drop_all}
 use Rattle.automata.specs.declared.Move.{Move}
 use Rattle.automata.specs.declared.Move.TheVariants.{Accept, Reject, Step}
@@ -35,8 +35,8 @@ module _ {L : Type 0} (said : L → Order) (moves : ℕ → ℕ → Move L) wher
   one_last all before after s atoms i m lt is inv grown halts =
       sym (one_more all before after s atoms i m lt is inv grown
       ∙ ap (λ xs. after ++ xs) (ends (λ t. lines_of said moves t (drop (i + 1) atoms)) m halts)
-      ∙ append_nil after)
+      ∙ append-nil after)
 
   -- no atom is left
   pub none_left : (all before : List Line) (s : ℕ) (atoms : List ℕ) (i : ℕ) → length atoms ≤ i → all ≡ before ++ lines_of said moves s (drop i atoms) → before ≡ all
-  none_left all before s atoms i le inv = sym (inv ∙ ap (λ xs. before ++ xs) (at_drop_all (lines_of said moves s) atoms i le) ∙ append_nil before)
+  none_left all before s atoms i le inv = sym (inv ∙ ap (λ xs. before ++ xs) (at_drop_all (lines_of said moves s) atoms i le) ∙ append-nil before)

@@ -69,7 +69,7 @@ pub fn states<L: Label>(heap: Global, kind: Kind, text: &[u8]) -> Result<usize, 
 
 // The same move with the order that its label stands for.
 fn told<L: Spelled>(made: Move<L>) -> Move<Order>
-    ensures { result ≡ told_move L.Spelled.said IfOk }
+    ensures { result ≡ told_move L.Spelled.said made }
 {
     match made {
         Move::Accept => Move::Accept,

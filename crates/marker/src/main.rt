@@ -10,6 +10,7 @@ use labels::{Bare, Kind, Measured};
 use reading::{NODE_RECORDS, read};
 use script::{Node, Script, ScriptMachine};
 use std::alloc::Global;
+use std::process::ExitCode;
 use std::{env, fs};
 
 mod failure;
@@ -82,8 +83,9 @@ fn work(rt: &HostRuntime) -> Result<String, Failure> {
     }
 }
 
-fn main(rt: HostRuntime) -> Result<(), Status> {
-    match work(&rt) {
+// Prints what the program answers, or to standard error why there is no answer.
+fn report(rt: &HostRuntime) -> Result<(), Status> {
+    match work(rt) {
         Ok(text) => {
             println!(rt; "{text}")?;
             Ok(())
@@ -92,5 +94,12 @@ fn main(rt: HostRuntime) -> Result<(), Status> {
             eprintln!(rt; "{failure}")?;
             Err(Status::Failed)
         }
+    }
+}
+
+fn main(rt: HostRuntime) -> ExitCode {
+    match report(&rt) {
+        Ok(()) => ExitCode::SUCCESS,
+        Err(Status::Failed) => ExitCode::FAILURE,
     }
 }

@@ -7,13 +7,13 @@ use Rattle.labels.specs.declared.Kind.TheVariants.{Measured}
 use Rattle.requests.specs.declared.request.Command.{Command}
 use Rattle.requests.specs.declared.request.Command.TheVariants.{Check, Run}
 use Rattle.requests.specs.declared.request.Request.{Request}
-use Rattle.requests.specs.Words.{kind_of, word_atom}
+use Rattle.requests.specs.Words.{kind_named, word_atom}
 
 -- the words begin with `--kind` and the number of this kind, or no kind is taken from them; the rest stands behind
 abbrev pub Kinded : List (String Global) → Option Kind → List (String Global) → Type 0
 Kinded words None rest = rest ≡ words
 Kinded words (Some k) rest =
-    (o : String Global) × (n : String Global) × (words ≡ o ∷ n ∷ rest) × (string_bytes o ≡ codes "--kind") × (kind_of (string_bytes n) ≡ Some k)
+    (o : String Global) × (n : String Global) × (words ≡ o ∷ n ∷ rest) × (string_bytes o ≡ codes "--kind") × (kind_named (string_bytes n) ≡ Some k)
 
 -- each word writes the atom at its place
 abbrev pub Atoms : List (String Global) → List ℕ → Type 0

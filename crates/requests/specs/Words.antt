@@ -10,8 +10,8 @@ use Rattle.words.specs.declared.Word.TheVariants.{Test, Verb, If, Else, While, S
 use Rattle.words.specs.Words.{word_of}
 
 -- the kind of label that a word numbers
-abbrev pub kind_of : List ℕ → Option Kind
-kind_of w = cond (bytes_eq w (codes "1")) (Some Bare) (cond (bytes_eq w (codes "2")) (Some Measured) None)
+abbrev pub kind_named : List ℕ → Option Kind
+kind_named w = cond (bytes_eq w (codes "1")) (Some Bare) (cond (bytes_eq w (codes "2")) (Some Measured) None)
 
 -- a number with one decimal digit more, up to 255
 abbrev pub append_digit : ℕ → ℕ → Option ℕ
@@ -24,8 +24,8 @@ digits_on (Some n) [] = Some n
 digits_on (Some n) (b ∷ bs) = digits_on (append_digit n b) bs
 
 -- the number that a word of one digit or more writes
-abbrev pub number_of : List ℕ → Option ℕ
-number_of w = cond (length w == 0) None (digits_on (Some 0) w)
+abbrev pub digits_value : List ℕ → Option ℕ
+digits_value w = cond (length w == 0) None (digits_on (Some 0) w)
 
 -- a known word as a test
 abbrev pub as_test : Option Word → Option GalleyTest
@@ -62,4 +62,4 @@ or_else None o = o
 
 -- the atom that a word writes: `none`, a number, or tests
 abbrev pub word_atom : List ℕ → Option ℕ
-word_atom w = cond (bytes_eq w (codes "none")) (Some 0) (or_else (number_of w) (tests_on (Some 0) [] w))
+word_atom w = cond (bytes_eq w (codes "none")) (Some 0) (or_else (digits_value w) (tests_on (Some 0) [] w))

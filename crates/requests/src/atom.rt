@@ -1,6 +1,6 @@
 // Atoms as words: a number, tests joined by `+`, or `none`.
 ghost use Rattle.std.specs.Prelude.{◌≡◌, ◌<◌, [], IfSome, Some};
-ghost use Rattle.requests.specs.Words.{word_atom, append_digit, number_of, tests_on, joined, test_in};
+ghost use Rattle.requests.specs.Words.{word_atom, append_digit, digits_value, tests_on, joined, test_in};
 
 use atoms::{ATOMS, Test};
 use std::fmt;
@@ -68,7 +68,7 @@ pub fn with_digit(number: u8, byte: u8) -> Option<u8>
 
 // The number up to 255 that decimal digits write.
 fn number_of(word: &[u8]) -> Option<u8>
-    ensures { result ≡ number_of word.now }
+    ensures { result ≡ digits_value word.now }
 {
     if word.is_empty() {
         return None;
@@ -84,7 +84,7 @@ fn number_of(word: &[u8]) -> Option<u8>
 pub fn atom_of(word: &[u8]) -> Option<u8>
     ensures { result ≡ word_atom word.now }
 {
-    if word == b"none" {
+    if word == b"none".as_slice() {
         return Some(0);
     }
     match number_of(word) {

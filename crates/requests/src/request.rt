@@ -1,6 +1,6 @@
 // What the words of a command line ask for.
 ghost use Rattle.std.specs.Prelude.{◌≡◌, IfOk};
-ghost use Rattle.requests.specs.Words.{kind_of};
+ghost use Rattle.requests.specs.Words.{kind_named};
 ghost use Rattle.requests.specs.Requests.{Kinded, Atoms, Commanded, Asked};
 
 use crate::Wrong;
@@ -24,7 +24,7 @@ pub struct Request {
 
 // The kind of label that a word numbers, if it does.
 fn kind_of(word: &str) -> Option<Kind>
-    ensures { result ≡ kind_of word.now }
+    ensures { result ≡ kind_named word.now }
 {
     if word == "1" {
         Some(Kind::Bare)

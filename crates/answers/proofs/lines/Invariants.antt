@@ -4,5 +4,5 @@ use Rattle.answers.proofs.lines.Given as goal
 
 abbrev pub invariant-loop-atom : goal.invariant-loop-atom
 invariant-loop-atom g l =
-    lines_of g.Label.Spelled.said (g.M.Machine.moves l.machine) l.state l.atoms
-    ≡ vec_items l.lines ++ lines_of g.Label.Spelled.said (g.M.Machine.moves l.machine) l.at (drop l.atom-index l.atoms)
+    lines_of g.M.Label.Spelled.said (g.M.Machine.moves l.machine) l.state l.atoms
+    ≡ vec_items l.lines ++ lines_of g.M.Label.Spelled.said (g.M.Machine.moves l.machine) l.at (drop l.atom-index l.atoms)
