@@ -1,7 +1,6 @@
 -- A run, atom by atom.
-use Rattle.std.proofs.Common.{◌≡◌, ℕ, suc, ◌+◌, ◌<◌, ◌≤◌, List, [], ◌∷◌, length, get_or, drop, sym, refl, ap, ◌∙◌, add-one, drop_of_length-le, drop-cons}
+use Rattle.std.proofs.Common.{◌≡◌, ℕ, ◌+◌, ◌<◌, ◌≤◌, List, length, get_or, drop, sym, ap, ◌∙◌, add-one, drop_of_length-le, drop-cons}
 use Rattle.automata.specs.declared.Move.{Move}
-use Rattle.automata.specs.declared.Ending.{Ending}
 use Rattle.automata.specs.declared.Ending.TheVariants.{Accepted, Early}
 use Rattle.automata.specs.Runs.{ended, on_move, accepted_at}
 

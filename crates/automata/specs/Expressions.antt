@@ -1,5 +1,5 @@
 -- Scripts as expressions of guarded Kleene algebra with tests, and their traces.
-use Rattle.std.specs.Prelude.{◌≡◌, ℕ, ◌<◌, Bool, true, false, ◌⊎◌}
+use Rattle.std.specs.Prelude.{◌≡◌, ℕ, ◌<◌, Bool, true}
 use Rattle.atoms.specs.Atoms.{atoms}
 use Rattle.automata.specs.Traces.{Trace, last, then}
 use Rattle.automata.specs.Joins.{Traces, Sequence, Choice, Loop}

@@ -1,7 +1,7 @@
 -- Guarded traces, and what a state of a machine accepts.
 use Rattle.std.specs.Prelude.{◌≡◌, ℕ, ◌+◌, Bool, true, List, [], ◌∷◌}
 use Rattle.automata.specs.declared.Move.{Move}
-use Rattle.automata.specs.declared.Move.TheVariants.{Accept, Reject, Step}
+use Rattle.automata.specs.declared.Move.TheVariants.{Accept, Step}
 
 -- a guarded trace: atoms with labels between them, at least one atom
 pub data Trace (L : Type 0) : Type 0 where

@@ -1,5 +1,5 @@
 -- Parts joined by a mark: the number of turns that are allowed for does not matter.
-use Rattle.std.proofs.Common.{◌≡◌, ℕ, zero, suc, ◌+◌, ◌<◌, ◌≤◌, Bool, true, false, cond, Ok, Err, Result, sym, refl, ap, ◌∙◌, subst, arith}
+use Rattle.std.proofs.Common.{◌≡◌, ℕ, zero, suc, ◌+◌, ◌<◌, ◌≤◌, Bool, true, false, cond, Ok, Err, sym, refl, ap, ◌∙◌, arith}
 use Rattle.automata.specs.declared.Fault.{Fault}
 use Rattle.tokens.specs.declared.Mark.{Mark as Sign}
 use Rattle.tokens.specs.Classes.{same_mark}

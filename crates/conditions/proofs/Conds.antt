@@ -1,18 +1,16 @@
 -- A condition token by token: what each way through its code comes to.
-use Rattle.std.proofs.Common.{◌≡◌, ℕ, zero, suc, ◌+◌, ◌-◌, ◌<◌, ◌≤◌, Bool, true, false, cond, Ok, Err, Result, sym, refl, ap, ◌∙◌, subst, add-one, arith}
+use Rattle.std.proofs.Common.{◌≡◌, ℕ, zero, suc, ◌+◌, ◌-◌, ◌<◌, true, false, Ok, Err, Result, sym, ap, ◌∙◌, subst, add-one, arith}
 use Rattle.atoms.specs.declared.AtomSet.{AtomSet}
 use Rattle.atoms.specs.Sets.{every}
 use Rattle.automata.specs.declared.Fault.{Fault}
 use Rattle.automata.specs.declared.Fault.TheVariants.{TooDeep}
 use Rattle.tokens.specs.declared.Mark.{Mark as Sign}
-use Rattle.tokens.specs.declared.Mark.TheVariants.{CloseParen}
-use Rattle.tokens.specs.Streams.{Stream, ahead, begins, past, expected}
+use Rattle.tokens.specs.Streams.{Stream, ahead, begins, past}
 use Rattle.tokens.proofs.Ahead.{past_same}
-use Rattle.conditions.specs.declared.Operand.{Operand}
 use Rattle.conditions.specs.declared.Operand.TheVariants.{Set, Not, Group}
 use Rattle.conditions.specs.Outcomes.{Out, bind, chain}
 use Rattle.conditions.specs.Operands.{operand_of}
-use Rattle.conditions.specs.Conditions.{operand_on, cond_of, close_group, factor_at, Told}
+use Rattle.conditions.specs.Conditions.{cond_of, close_group, factor_at, Told}
 use Rattle.conditions.proofs.Chains.{Eats, past_less, chain_go, chain_stop}
 
 -- parts joined by a mark

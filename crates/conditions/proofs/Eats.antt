@@ -1,19 +1,18 @@
 -- Every part of the grammar takes its tokens from the front.
-use Rattle.std.proofs.Common.{◌≡◌, ℕ, zero, suc, ◌+◌, ◌-◌, ◌<◌, ◌≤◌, Bool, true, false, cond, eqb, Ok, Err, Result, sym, refl, ap, ◌∙◌, subst, arith}
+use Rattle.std.proofs.Common.{◌≡◌, ℕ, zero, suc, ◌+◌, ◌-◌, ◌≤◌, Bool, true, false, cond, eqb, Ok, Err, arith}
 use lib.Bits.{bit_and, bit_or}
 use Rattle.atoms.specs.Sets.{every}
-use Rattle.automata.specs.declared.Fault.{Fault}
 use Rattle.automata.specs.declared.Fault.TheVariants.{Unexpected, TooDeep}
 use Rattle.tokens.specs.declared.Mark.{Mark as Sign}
 use Rattle.tokens.specs.declared.Mark.TheVariants.{OpenBrace, CloseBrace, OpenParen, CloseParen, OpenBracket, CloseBracket, Semicolon, Not, And, Or, Minus}
 use Rattle.words.specs.declared.Word.TheVariants.{Test, Verb, If, Else, While, Skip, Stop, By, P}
 use Rattle.tokens.specs.Classes.{same_mark}
-use Rattle.tokens.specs.Streams.{Stream, end, bad, word, number, mark, ahead, begins, past, expected}
+use Rattle.tokens.specs.Streams.{Stream, end, bad, word, number, mark, ahead, expected}
 use Rattle.conditions.specs.declared.Operand.{Operand}
 use Rattle.conditions.specs.declared.Operand.TheVariants as operand
 use Rattle.conditions.specs.Outcomes.{Out, bind, chain}
 use Rattle.conditions.specs.Operands.{operand_of}
-use Rattle.conditions.specs.Conditions.{operand_on, and_part, term_of, or_part, cond_of, close_group, factor_at, cond_at}
+use Rattle.conditions.specs.Conditions.{operand_on, and_part, term_of, or_part, cond_of, close_group, factor_at}
 use Rattle.conditions.proofs.Chains.{Eats, keep, refuse, taken, bind_eats, chain_eats}
 
 pub expected_eats : (m : Sign) → Eats (expected m)

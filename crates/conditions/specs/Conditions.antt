@@ -1,5 +1,5 @@
 -- Conditions: the set of atoms that a condition stands for.
-use Rattle.std.specs.Prelude.{◌≡◌, ℕ, zero, suc, ◌-◌, ◌≤◌, Ok, Err, Result, bit_and, bit_or}
+use Rattle.std.specs.Prelude.{◌≡◌, ℕ, zero, suc, ◌-◌, Ok, Err, Result, bit_and, bit_or}
 use Rattle.atoms.specs.declared.AtomSet.{AtomSet}
 use Rattle.atoms.specs.Sets.{every}
 use Rattle.automata.specs.declared.Fault.{Fault}

@@ -1,7 +1,6 @@
 -- What the first token of an operand decides.
-use Rattle.std.specs.Prelude.{cond, Ok, Err, Result, ◌==◌}
+use Rattle.std.specs.Prelude.{cond, Ok, Err, ◌==◌}
 use Rattle.atoms.specs.Sets.{every, set_of}
-use Rattle.automata.specs.declared.Fault.{Fault}
 use Rattle.automata.specs.declared.Fault.TheVariants.{Unexpected}
 use Rattle.tokens.specs.declared.Mark.TheVariants.{OpenBrace, CloseBrace, OpenParen, CloseParen, OpenBracket, CloseBracket, Semicolon, Not, And, Or, Minus}
 use Rattle.words.specs.declared.Word.TheVariants.{Test, Verb, If, Else, While, Skip, Stop, By, P}

@@ -1,5 +1,5 @@
 -- What a part of a text comes to: a value and the tokens that follow it, or a fault.
-use Rattle.std.specs.Prelude.{◌≡◌, ℕ, zero, suc, Bool, cond, Ok, Err, Result}
+use Rattle.std.specs.Prelude.{ℕ, zero, suc, cond, Ok, Err, Result}
 use Rattle.automata.specs.declared.Fault.{Fault}
 use Rattle.tokens.specs.declared.Mark.{Mark}
 use Rattle.tokens.specs.Streams.{Stream, ahead, begins, past}

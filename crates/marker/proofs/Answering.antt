@@ -1,5 +1,5 @@
 -- The refusal of a text from what reading answers.
-use Rattle.std.proofs.Common.{◌≡◌, ℕ, ◌≤◌, Bool, true, false, cond, ltb, List, length, Some, None, Ok, Err, Option, Result, sym, refl, ap, ◌∙◌, subst}
+use Rattle.std.proofs.Common.{◌≡◌, ℕ, ◌≤◌, Bool, true, false, cond, ltb, List, length, Some, Err, Result, sym, refl, ap, ◌∙◌, subst}
 use Rattle.std.proofs.lemmas.Bool.{le-ltb}
 use Rattle.automata.specs.declared.Fault.{Fault}
 use Rattle.automata.specs.declared.Fault.TheVariants.{ShortBuffer, LongText}

@@ -1,26 +1,26 @@
 -- Blocks, steps and scripts token by token: what each way through their code comes to.
-use Rattle.std.proofs.Common.{◌≡◌, ℕ, zero, suc, ◌+◌, ◌<◌, ◌≤◌, Bool, true, false, cond, ltb, List, length, Ok, Err, Result, sym, refl, ap, ◌∙◌, subst, add-one, arith}
+use Rattle.std.proofs.Common.{◌≡◌, ℕ, zero, suc, ◌+◌, ◌<◌, Bool, true, false, cond, List, Ok, Err, sym, refl, ap, ◌∙◌, add-one, arith}
 use Rattle.std.proofs.lemmas.Bool.{lt-ltb}
 use Rattle.automata.specs.declared.Fault.{Fault}
 use Rattle.automata.specs.declared.Fault.TheVariants.{TooDeep, TooManySteps}
 use Rattle.labels.specs.declared.Kind.{Kind}
 use Rattle.script.specs.declared.node.Node.{Node}
 use Rattle.script.specs.declared.node.Node.TheVariants.{Sequence}
-use Rattle.script.specs.Trees.{Tree, joined, branched, guarded, looped, steps}
+use Rattle.script.specs.Trees.{Tree, joined, branched, guarded, steps}
 use Rattle.script.specs.Lists.{most_steps}
 use Rattle.tokens.specs.declared.Mark.TheVariants.{OpenBrace, Semicolon}
 use Rattle.words.specs.declared.Word.TheVariants.{Test, Verb, If, Else, While, Skip, Stop, By, P}
 use Rattle.tokens.specs.Streams.{Stream, end, bad, word, number, mark, begins, past, begins_else, past_else, expected}
 use Rattle.reading.specs.declared.First.{First}
 use Rattle.reading.specs.declared.Progress.{Progress}
-use Rattle.conditions.specs.Outcomes.{Out, bind, chain}
+use Rattle.conditions.specs.Outcomes.{Out, bind}
 use Rattle.reading.specs.Firsts.{first_of}
 use Rattle.reading.specs.Steps.{if_of, step_on, step_at, next_step, script_at, close_block, block_at}
-use Rattle.reading.specs.Drafts.{Room, Stored, Pushed}
+use Rattle.reading.specs.Drafts.{Stored, Pushed}
 use Rattle.conditions.proofs.Conds.{going, without, turn}
 use Rattle.reading.proofs.Stores.{store_two}
 use Rattle.reading.proofs.StepEats.{next_eats, step_eats}
-use Rattle.reading.proofs.Growth.{Growing, Grown, coming}
+use Rattle.reading.proofs.Growth.{Growing}
 
 module _ (k : Kind) (d n : ℕ) (s : Stream) where
   pub block_fails : (f : Fault) → expected OpenBrace s ≡ Err f → block_at k d n s ≡ Err f

@@ -8,7 +8,7 @@ use Rattle.tokens.specs.Streams.{Stream}
 use Rattle.reading.specs.declared.Progress.{Progress}
 use Rattle.conditions.specs.Outcomes.{Out, chain}
 use Rattle.reading.specs.Steps.{next_step, step_at}
-use Rattle.reading.specs.Drafts.{Room, Stored}
+use Rattle.reading.specs.Drafts.{Stored}
 
 -- what the steps from `start` on come to, from a tree on
 abbrev pub coming : Kind → ℕ → Progress → Tree → Stream → Out Tree

@@ -1,10 +1,9 @@
 -- Steps, blocks and scripts take their tokens from the front.
-use Rattle.std.proofs.Common.{◌≡◌, ℕ, zero, suc, ◌+◌, ◌<◌, ◌≤◌, Bool, true, false, cond, ltb, Some, None, Ok, Err, Option, Result, sym, refl, ap, ◌∙◌, subst, arith}
+use Rattle.std.proofs.Common.{◌≡◌, ℕ, zero, suc, ◌+◌, ◌≤◌, Bool, true, false, cond, ltb, Some, None, Ok, Err, Option, Result, refl, arith}
 use Rattle.atoms.specs.Sets.{every}
 use Rattle.automata.specs.declared.Fault.{Fault}
 use Rattle.automata.specs.declared.Fault.TheVariants.{Unexpected, NoMeasure, TooDeep, TooManySteps}
 use Rattle.labels.specs.declared.Kind.{Kind}
-use Rattle.labels.specs.declared.Order.{Order}
 use Rattle.labels.specs.declared.Verb.{Verb as OrderVerb}
 use Rattle.labels.specs.Kinds.{has_measure}
 use Rattle.script.specs.Trees.{Tree, ordered, tested, joined, branched, guarded, looped, steps}
@@ -20,7 +19,7 @@ use Rattle.reading.specs.declared.Leaf.TheVariants as leaf
 use Rattle.conditions.specs.Outcomes.{Out, bind, chain}
 use Rattle.reading.specs.Firsts.{first_of}
 use Rattle.conditions.specs.Conditions.{cond_at, factor_at}
-use Rattle.reading.specs.Steps.{order_of, then_on, then_p, amount_of, measure_on, measure_of, plain_of, if_of, while_of, step_on, step_of, next_step, script_of, close_block, block_at, step_at, script_at}
+use Rattle.reading.specs.Steps.{order_of, then_on, then_p, amount_of, measure_on, measure_of, plain_of, if_of, while_of, step_on, step_of, next_step, script_of, close_block, block_at, step_at}
 use Rattle.conditions.proofs.Chains.{Eats, keep, refuse, taken, bind_eats, chain_eats, past_le}
 use Rattle.conditions.proofs.Eats.{expected_eats, cond_eats, factor_eats}
 

@@ -1,5 +1,5 @@
 -- A whole text: its script, and then its end.
-use Rattle.std.proofs.Common.{◌≡◌, ℕ, List, Some, None, Ok, Err, Option, Result, sym, refl, ap, ◌∙◌, subst}
+use Rattle.std.proofs.Common.{◌≡◌, ℕ, List, Some, None, Ok, Err, Result, sym, ap, ◌∙◌, subst}
 use Rattle.automata.specs.declared.Fault.{Fault}
 use Rattle.labels.specs.declared.Kind.{Kind}
 use Rattle.script.specs.declared.node.Node.{Node}

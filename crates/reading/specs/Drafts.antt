@@ -1,5 +1,5 @@
 -- What a part of a script leaves in the node list.
-use Rattle.std.specs.Prelude.{◌≡◌, ℕ, ◌+◌, ◌*◌, ◌<◌, ◌≤◌, List, [], ◌∷◌, ◌++◌, length, take, Ok, Err, Result}
+use Rattle.std.specs.Prelude.{◌≡◌, ℕ, ◌+◌, ◌*◌, ◌≤◌, List, [], ◌∷◌, ◌++◌, length, take, Ok, Err, Result}
 use Rattle.automata.specs.declared.Fault.{Fault}
 use Rattle.labels.specs.declared.Order.{Order}
 use Rattle.script.specs.declared.node.Node.{Node}

@@ -1,6 +1,5 @@
 -- What the first token of a step decides.
-use Rattle.std.specs.Prelude.{ℕ, Ok, Err, Result}
-use Rattle.automata.specs.declared.Fault.{Fault}
+use Rattle.std.specs.Prelude.{ℕ, Ok, Err}
 use Rattle.automata.specs.declared.Fault.TheVariants.{Unexpected}
 use Rattle.tokens.specs.declared.Mark.TheVariants.{OpenBrace, CloseBrace, OpenParen, CloseParen, OpenBracket, CloseBracket, Semicolon, Not, And, Or, Minus}
 use Rattle.words.specs.declared.Word.TheVariants.{Test, Verb, If, Else, While, Skip, Stop, By, P}

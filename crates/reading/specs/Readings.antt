@@ -7,7 +7,7 @@ use Rattle.script.specs.declared.node.Node.{Node}
 use Rattle.script.specs.declared.node.Node.TheVariants.{Blank}
 use Rattle.script.specs.Trees.{Tree, steps}
 use Rattle.script.specs.Lists.{code, most_steps}
-use Rattle.tokens.specs.Streams.{Stream, stream_at, expected_end}
+use Rattle.tokens.specs.Streams.{stream_at, expected_end}
 use Rattle.conditions.specs.Outcomes.{Out}
 use Rattle.reading.specs.Steps.{script_at}
 use Rattle.reading.specs.Drafts.{node_records}

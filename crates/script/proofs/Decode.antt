@@ -1,10 +1,9 @@
 -- A list of nodes holds a tree exactly when reading the nodes one by one leaves that tree.
-use Rattle.std.proofs.Common.{◌≡◌, ℕ, zero, suc, ◌+◌, ◌-◌, ◌<◌, ◌≤◌, Bool, true, false, cond, not, ◌&&◌, List, [], ◌∷◌, ◌++◌, length, get_or, Some, None, Option, sym, refl, ap, ◌∙◌, subst, append_assoc, add-zero, add_assoc, zero-add, arith, length-append}
-use Rattle.std.specs.List.{prefix_len}
+use Rattle.std.proofs.Common.{◌≡◌, ℕ, ◌+◌, ◌≤◌, Bool, true, false, List, [], ◌∷◌, ◌++◌, length, Some, None, Option, sym, refl, ap, ◌∙◌, subst, append_assoc, zero-add, arith, length-append}
 use Rattle.script.specs.declared.node.Node.{Node}
 use Rattle.script.specs.declared.node.Node.TheVariants.{Blank, Order, Test, Sequence, If, When, While}
-use Rattle.script.specs.Trees.{Tree, ordered, tested, joined, branched, guarded, looped, steps, orders}
-use Rattle.script.specs.Lists.{code, blank_node, all_blank, Holds, one, two, grown, alone, when_blank, going_on, parsed_on, parsed, used, node_at, Placed}
+use Rattle.script.specs.Trees.{Tree, ordered, tested, joined, branched, guarded, looped}
+use Rattle.script.specs.Lists.{code, all_blank, Holds, one, two, alone, when_blank, going_on, parsed, used, node_at, Placed}
 
 -- reading a tree's nodes leaves the tree
 pub parsed_code : (t : Tree) (ns : List Node) (st : List Tree) → parsed (code t ++ ns) st ≡ parsed ns (t ∷ st)

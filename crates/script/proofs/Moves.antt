@@ -1,19 +1,19 @@
 -- The moves of the script in a list, from its extent.
-use Rattle.std.proofs.Common.{◌≡◌, ℕ, zero, suc, ◌+◌, ◌-◌, ◌<◌, ◌≤◌, Bool, true, false, cond, ◌&&◌, eqb, ltb, leb, ◌⊎◌, List, [], length, Some, None, Option, sym, refl, ap, ◌∙◌, subst, inl, inr, arith, eq-eqb, ne_eqb}
+use Rattle.std.proofs.Common.{◌≡◌, ℕ, ◌+◌, ◌<◌, ◌≤◌, Bool, true, false, cond, ◌&&◌, eqb, ltb, leb, ◌⊎◌, List, [], length, Some, None, Option, sym, refl, ap, ◌∙◌, subst, inl, inr, arith, eq-eqb, ne_eqb}
 use Rattle.std.proofs.lemmas.Bool.{le-leb, lt-leb, lt-ltb, le-ltb, leb-true}
 use Rattle.atoms.specs.Atoms.{atoms}
 use Rattle.automata.specs.declared.Move.{Move}
-use Rattle.automata.specs.declared.Move.TheVariants.{Accept, Reject, Step}
+use Rattle.automata.specs.declared.Move.TheVariants.{Reject}
 use Rattle.automata.specs.Walks.{orders_in, first_move, after_move, machine_move}
 use Rattle.labels.specs.declared.Order.{Order as Said}
 use Rattle.script.specs.declared.node.Node.{Node}
 use Rattle.script.specs.Trees.{Tree, steps, orders, expr_of}
-use Rattle.script.specs.Lists.{most_steps, parsed, few_steps, script_in, used, Holds, Placed}
+use Rattle.script.specs.Lists.{most_steps, parsed, few_steps, script_in, Holds, Placed}
 use Rattle.script.specs.Extents.{extent_on, extent_of}
 use Rattle.script.specs.Machines.{script_move}
 use Rattle.script.specs.MachineLaws.{orders_expr}
 use Rattle.script.proofs.Parts.{some}
-use Rattle.script.proofs.Decode.{parsed_holds, holds_parsed, holds_placed, holds_used, holds_within}
+use Rattle.script.proofs.Decode.{parsed_holds, holds_parsed, holds_placed, holds_within}
 
 pub no_tree : {t : Tree} → ◌≡◌ {A = Option Tree} None (Some t) → ⊥
 no_tree e = let z : ◌≡◌ {A = ℕ} 0 1 = cc in omega arith

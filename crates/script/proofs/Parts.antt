@@ -1,11 +1,10 @@
 -- The tree that ends at a node, taken apart by that node.
-use Rattle.std.proofs.Common.{◌≡◌, ℕ, suc, ◌+◌, ◌-◌, ◌<◌, ◌≤◌, List, length, get_or, sym, refl, ap, ◌∙◌, subst, arith}
-use Rattle.automata.specs.Walks.{orders_in}
+use Rattle.std.proofs.Common.{◌≡◌, ℕ, ◌+◌, ◌-◌, ◌<◌, List, sym, refl, ap, ◌∙◌, subst, arith}
 use Rattle.labels.specs.declared.Order.{Order as Said}
 use Rattle.atoms.specs.declared.AtomSet.{AtomSet}
 use Rattle.script.specs.declared.node.Node.{Node}
 use Rattle.script.specs.declared.node.Node.TheVariants.{Blank, Order, Test, Sequence, If, When, While}
-use Rattle.script.specs.Trees.{Tree, ordered, tested, joined, branched, guarded, looped, orders, expr_of}
+use Rattle.script.specs.Trees.{Tree, ordered, tested, joined, branched, guarded, looped}
 use Rattle.script.specs.Lists.{node_at, Placed}
 
 -- the last node of a tree

@@ -1,18 +1,18 @@
 -- What the walk says of the tree at a node, from what it says of the trees below.
-use Rattle.std.proofs.Common.{◌≡◌, ℕ, suc, ◌+◌, ◌-◌, ◌<◌, ◌≤◌, Bool, true, false, cond, leb, List, sym, refl, ap, ◌∙◌, subst, arith}
+use Rattle.std.proofs.Common.{◌≡◌, ℕ, ◌+◌, ◌-◌, ◌<◌, ◌≤◌, Bool, cond, leb, List, sym, refl, ap, ◌∙◌, subst, arith}
 use Rattle.labels.specs.declared.Order.{Order as Said}
 use Rattle.atoms.specs.declared.AtomSet.{AtomSet}
-use Rattle.atoms.specs.Sets.{member, every}
+use Rattle.atoms.specs.Sets.{member}
 use Rattle.automata.specs.declared.Move.{Move}
 use Rattle.automata.specs.declared.Move.TheVariants.{Accept, Reject, Step}
-use Rattle.automata.specs.Walks.{first_move, after_move, then_move, turn_move, orders_in}
+use Rattle.automata.specs.Walks.{first_move, after_move, then_move, orders_in}
 use Rattle.script.specs.declared.node.Node.{Node}
-use Rattle.script.specs.declared.node.Node.TheVariants.{Blank, Order, Test, Sequence, If, When, While}
-use Rattle.script.specs.Trees.{Tree, ordered, tested, joined, branched, guarded, looped, orders, expr_of}
+use Rattle.script.specs.declared.node.Node.TheVariants.{Order, Test}
+use Rattle.script.specs.Trees.{Tree, ordered, tested, orders, expr_of}
 use Rattle.script.specs.Lists.{node_at, Placed}
 use Rattle.std.proofs.lemmas.Bool.{le-leb, lt-leb}
 use Rattle.script.specs.MachineLaws.{orders_expr}
-use Rattle.script.proofs.Parts.{of_order, of_test, of_sequence, of_if, of_when, of_while, Two, One}
+use Rattle.script.proofs.Parts.{of_order, of_test, Two, One}
 
 -- the first move of the tree that ends before e, its start, and the orders before it
 abbrev pub Says : List Node → ℕ → ℕ → ℕ → Move Said → ℕ → ℕ → Type 0

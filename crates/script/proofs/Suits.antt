@@ -1,14 +1,13 @@
 -- The orders of a list and of the tree that it holds, and the machine of a list.
-use Rattle.std.proofs.Common.{◌≡◌, ℕ, suc, ◌+◌, ◌<◌, ◌≤◌, Bool, true, false, cond, ◌&&◌, leb, List, [], ◌∷◌, ◌++◌, length, drop, Some, None, Option, sym, refl, ap, ◌∙◌, subst, append_assoc, add-one, arith, drop_of_length-le, drop-cons}
+use Rattle.std.proofs.Common.{◌≡◌, ℕ, ◌+◌, ◌<◌, ◌≤◌, Bool, true, false, cond, ◌&&◌, leb, List, [], ◌∷◌, ◌++◌, length, drop, Some, None, Option, sym, refl, ap, ◌∙◌, append_assoc, add-one, arith, drop_of_length-le, drop-cons}
 use Rattle.std.proofs.lemmas.Bool.{le-leb}
 use Rattle.automata.specs.declared.Label.{Ghosts as LabelGhosts}
-use Rattle.automata.specs.declared.Move.{Move}
 use Rattle.automata.specs.declared.Move.TheVariants.{Reject}
-use Rattle.automata.specs.Walks.{machine_move, labelled}
+use Rattle.automata.specs.Walks.{labelled}
 use Rattle.labels.specs.declared.Order.{Order as Said}
 use Rattle.script.specs.declared.node.Node.{Node}
 use Rattle.script.specs.declared.node.Node.TheVariants.{Blank, Order, Test, Sequence, If, When, While}
-use Rattle.script.specs.Trees.{Tree, ordered, tested, joined, branched, guarded, looped, steps, orders, expr_of, every_order}
+use Rattle.script.specs.Trees.{Tree, ordered, tested, joined, branched, guarded, looped, steps, orders, every_order}
 use Rattle.script.specs.Lists.{code, all_blank, node_at, Holds, most_steps, script_in}
 use Rattle.script.specs.Machines.{passes, every_node, label_of, of_kind, Whole, size_on, script_move, stands, size_in, moves_in, MachineOf}
 use Rattle.script.proofs.Moves.{script_holds, holds_script}

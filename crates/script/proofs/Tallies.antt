@@ -1,9 +1,8 @@
 -- What a node does to the trees before it, in numbers.
-use Rattle.std.proofs.Common.{◌≡◌, ℕ, zero, suc, ◌+◌, ◌-◌, ◌<◌, ◌≤◌, Bool, true, false, cond, not, ◌&&◌, ltb, leb, List, [], ◌∷◌, ◌++◌, length, drop, Some, None, Option, sym, refl, ap, ◌∙◌, subst, add-one, arith, drop_of_length-le, drop-cons}
-use Rattle.std.specs.List.{prefix_len}
+use Rattle.std.proofs.Common.{◌≡◌, ℕ, suc, ◌+◌, ◌-◌, ◌<◌, ◌≤◌, Bool, true, false, cond, not, ◌&&◌, ltb, List, [], ◌∷◌, length, drop, Some, None, Option, sym, refl, ap, ◌∙◌, subst, add-one, arith, drop_of_length-le, drop-cons}
 use Rattle.std.proofs.lemmas.Bool.{le-leb, lt-leb, ltb-true, ltb-false}
 use Rattle.script.specs.declared.node.Node.{Node}
-use Rattle.script.specs.declared.node.Node.TheVariants.{Blank, Order, Test, Sequence, If, When, While}
+use Rattle.script.specs.declared.node.Node.TheVariants.{Blank}
 use Rattle.script.specs.declared.Tally.{Tally}
 use Rattle.script.specs.Trees.{Tree, steps, orders}
 use Rattle.script.specs.Lists.{blank_node, all_blank, one, two, grown, alone, when_blank, going_on, parsed_on, parsed, used, node_at, most_steps, few_steps, script_in}

@@ -1,10 +1,9 @@
 -- A tree in a list of nodes: each node after those below it, the rest of the list blank.
-use Rattle.std.specs.Prelude.{◌≡◌, ℕ, ◌+◌, ◌<◌, ◌≤◌, Bool, true, false, cond, not, ◌&&◌, List, [], ◌∷◌, ◌++◌, length, Some, None, Option, nat_le, slice_index_or}
+use Rattle.std.specs.Prelude.{◌≡◌, ℕ, ◌+◌, Bool, true, false, cond, not, ◌&&◌, List, [], ◌∷◌, ◌++◌, Some, None, Option, nat_le, slice_index_or}
 use Rattle.std.specs.List.{prefix_len}
-use Rattle.atoms.specs.declared.AtomSet.{AtomSet}
 use Rattle.script.specs.declared.node.Node.{Node}
 use Rattle.script.specs.declared.node.Node.TheVariants.{Blank, Order, Test, Sequence, If, When, While}
-use Rattle.script.specs.Trees.{Tree, ordered, tested, joined, branched, guarded, looped, steps, orders}
+use Rattle.script.specs.Trees.{Tree, ordered, tested, joined, branched, guarded, looped, steps}
 
 -- the most steps of a script
 abbrev pub most_steps : ℕ

@@ -1,12 +1,11 @@
 -- The laws of the machine of a script.
-use Rattle.std.proofs.Common.{◌≡◌, ℕ, suc, ◌+◌, ◌<◌, ◌≤◌, Bool, true, false, cond, ◌⊎◌, Some, None, Option, sym, refl, ap, ◌∙◌, subst, inl, inr, arith}
+use Rattle.std.proofs.Common.{◌≡◌, ℕ, ◌<◌, ◌≤◌, Bool, true, false, cond, ◌⊎◌, Some, None, Option, refl, ap, inl, inr, arith}
 use Rattle.atoms.specs.Atoms.{atoms}
 use Rattle.automata.specs.declared.Label.{Ghosts as LabelGhosts}
 use Rattle.automata.specs.declared.Move.{Move}
-use Rattle.automata.specs.declared.Move.TheVariants.{Accept, Reject, Step}
+use Rattle.automata.specs.declared.Move.TheVariants.{Reject, Step}
 use Rattle.automata.specs.Walks.{orders_in, machine_move, labelled}
-use Rattle.automata.proofs.Targets.{Within, within_step, move_within, labelled_within, move_outside}
-use Rattle.labels.specs.declared.Order.{Order as Said}
+use Rattle.automata.proofs.Targets.{within_step, move_within, labelled_within, move_outside}
 use Rattle.script.specs.Trees.{Tree, ordered, tested, joined, branched, guarded, looped, orders, expr_of}
 use Rattle.script.specs.Machines.{label_of, size_on, script_move, stands, size_in, moves_in}
 

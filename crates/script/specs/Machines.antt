@@ -1,5 +1,5 @@
 -- The machine of a node list.
-use Rattle.std.specs.Prelude.{◌≡◌, ℕ, ◌+◌, ◌≤◌, Bool, true, false, cond, ◌&&◌, List, [], ◌∷◌, is_some, Some, None, Option, nat_le}
+use Rattle.std.specs.Prelude.{◌≡◌, ℕ, ◌+◌, ◌≤◌, Bool, true, cond, ◌&&◌, List, [], ◌∷◌, is_some, Some, None, Option, nat_le}
 use Rattle.automata.specs.declared.Move.{Move}
 use Rattle.automata.specs.declared.Move.TheVariants.{Reject}
 use Rattle.automata.specs.declared.Label.{Ghosts as LabelGhosts}
@@ -9,7 +9,7 @@ use Rattle.labels.specs.Kinds.{order_bytes}
 use Rattle.script.specs.declared.node.Node.{Node}
 use Rattle.script.specs.declared.node.Node.TheVariants.{Blank, Order, Test, Sequence, If, When, While}
 use Rattle.script.specs.Trees.{Tree, steps, orders, expr_of, every_order}
-use Rattle.script.specs.Lists.{Holds, most_steps, script_in}
+use Rattle.script.specs.Lists.{Holds, most_steps}
 
 -- the move of a state of the script in a list, with its orders as the script says them
 abbrev pub script_move : Option Tree → ℕ → ℕ → Move Said

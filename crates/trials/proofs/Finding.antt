@@ -1,14 +1,12 @@
 -- Lists with commas, outcomes of questions, and the refusal of a short list.
-use Rattle.std.proofs.Common.{◌≡◌, ℕ, ◌+◌, ◌<◌, ◌≤◌, Bool, true, false, cond, eqb, ltb, List, [], ◌∷◌, ◌++◌, length, get_or, drop, Some, Ok, Err, vec_items, Option, Result, Vec, sym, refl, ap, ◌∙◌, subst, inr}
+use Rattle.std.proofs.Common.{◌≡◌, ℕ, ◌+◌, ◌<◌, ◌≤◌, Bool, cond, eqb, ltb, List, [], ◌∷◌, ◌++◌, length, get_or, drop, Some, Err, vec_items, Vec, sym, ap, ◌∙◌, subst, inr}
 use Rattle.std.proofs.lemmas.List.{at_drop_more, at_drop_all}
 use Rattle.std.specs.declared.alloc.Global.{Global}
-use Rattle.automata.specs.declared.Fault.{Fault}
 use Rattle.automata.specs.declared.Fault.TheVariants.{ShortBuffer}
 use Rattle.automata.specs.declared.Label.{Ghosts as LabelGhosts}
 use Rattle.labels.specs.declared.Kind.{Kind}
 use Rattle.labels.specs.declared.Order.{Order}
 use Rattle.script.specs.declared.node.Node.{Node}
-use Rattle.script.specs.Trees.{Tree}
 use Rattle.reading.specs.Drafts.{node_records}
 use Rattle.reading.specs.Readings.{outcome_of}
 use Rattle.answers.specs.declared.Played.{Played}
@@ -47,12 +45,6 @@ module _ {L : Type 0} (l : LabelGhosts L) (k : Kind) (held text : List ℕ) (sam
       let g : Holding l k text (λ size moves. Plays said moves s (vec_items atoms) x) = subst (λ bs. Holding l k text (λ size moves. Plays said moves s bs x)) same f in
       subst (λ q. Found l k text q o) (sym e) (inr (g.0, g.1, g.2, g.3, g.4, is ∙ ap ended_as g.5.1))
 
--- the fault of an outcome, or another
-fault_in : Result Tree Fault → Fault → Fault
-fault_in (Ok t) g = g
-fault_in (Err f) g = f
-
-pub short_refused : (k : Kind) (text : List ℕ) (ns : List Node) (f : Fault) → length ns ≡ 1023 → outcome_of k text ns ≡ Err f → f ≡ ShortBuffer
-unfolding fault_in
-short_refused k text ns f e is =
-    ap (λ r. fault_in r ShortBuffer) (sym is ∙ ap (λ n. cond (ltb n node_records) (Err ShortBuffer) (text_as k text)) e)
+-- a list that is one record short is refused for that
+pub short_refused : (k : Kind) (text : List ℕ) (ns : List Node) → length ns ≡ 1023 → outcome_of k text ns ≡ Err ShortBuffer
+short_refused k text ns e = ap (λ n. cond (ltb n node_records) (Err ShortBuffer) (text_as k text)) e

@@ -1,5 +1,5 @@
 -- The outcome of a run, and outcomes as lines store them.
-use Rattle.std.specs.Prelude.{◌≡◌, ℕ, List, [], ◌∷◌, Some, codes, Option}
+use Rattle.std.specs.Prelude.{◌≡◌, ℕ, List, [], ◌∷◌, Some, codes}
 use Rattle.automata.specs.declared.Ending.{Ending}
 use Rattle.automata.specs.declared.Ending.TheVariants as ending
 use Rattle.trials.specs.declared.outcome.Outcome.{Outcome}

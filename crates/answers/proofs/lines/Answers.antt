@@ -1,5 +1,5 @@
-use Rattle.std.proofs.Common.{◌≡◌, ◌+◌, [], ◌∷◌, ◌++◌, get_or, drop, vec_items, sym, ap, ◌∙◌, rules}
-use Rattle.answers.specs.Lines.{told_move, onward, lines_of}
+use Rattle.std.proofs.Common.{◌+◌, [], ◌∷◌, ◌++◌, get_or, drop, vec_items, ap, ◌∙◌}
+use Rattle.answers.specs.Lines.{onward, lines_of}
 use Rattle.answers.proofs.Lining.{one_more, one_last, none_left}
 use Rattle.answers.proofs.lines.Goals as goal
 

@@ -1,4 +1,4 @@
-use Rattle.std.proofs.Common.{◌≡◌, length, drop, sym, ap, ◌∙◌, arith, drop_of_length-le, rules}
+use Rattle.std.proofs.Common.{◌≡◌, length, sym, ap, ◌∙◌, arith, drop_of_length-le}
 use Rattle.automata.specs.Runs.{ended}
 use Rattle.automata.specs.declared.Ending.TheVariants.{Out}
 use Rattle.automata.proofs.Steps.{run_here, at_end, before_end}

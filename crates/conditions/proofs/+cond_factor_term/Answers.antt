@@ -1,10 +1,10 @@
-use Rattle.std.proofs.Common.{◌≡◌, ℕ, Ok, Err, sym, refl, ap, ◌∙◌, arith, rules}
+use Rattle.std.proofs.Common.{ℕ, Ok, Err, sym, ap, ◌∙◌, arith}
 use lib.Bits.{bit_and, bit_or}
 use Rattle.std.proofs.lemmas.Result.{err_from_is_err_and}
 use Rattle.tokens.specs.declared.Mark.TheVariants.{And, Or}
-use Rattle.tokens.specs.Streams.{left, ahead}
-use Rattle.conditions.specs.Outcomes.{chain, bind}
-use Rattle.conditions.specs.Conditions.{and_part, or_part, term_of, cond_of, cond_at, factor_at, close_group}
+use Rattle.tokens.specs.Streams.{left}
+use Rattle.conditions.specs.Outcomes.{chain}
+use Rattle.conditions.specs.Conditions.{and_part, or_part, term_of, cond_at, factor_at, close_group}
 use Rattle.conditions.proofs.Eats.{and_eats, or_eats, term_eats, factor_eats}
 use Rattle.conditions.proofs.Conds.{turn, fall, done, left_less, with_one, without, going, factor_fails, factor_set, factor_deep_not, factor_deep_group, factor_not, factor_group, told_err}
 use Rattle.conditions.proofs.+cond_factor_term.Goals as goal

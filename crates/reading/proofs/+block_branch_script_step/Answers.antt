@@ -1,14 +1,14 @@
-use Rattle.std.proofs.Common.{◌≡◌, ℕ, ◌+◌, Ok, Err, sym, refl, ap, ◌∙◌, arith, rules}
+use Rattle.std.proofs.Common.{◌≡◌, ℕ, ◌+◌, Err, sym, refl, ap, ◌∙◌, arith}
 use Rattle.std.proofs.lemmas.Result.{err_from_is_err_and}
 use Rattle.script.specs.declared.node.Node.TheVariants.{Sequence, If, When, While}
-use Rattle.script.specs.Trees.{Tree, joined, branched, guarded, looped, steps}
+use Rattle.script.specs.Trees.{branched, guarded, looped, steps}
 use Rattle.tokens.specs.declared.Mark.TheVariants.{Semicolon}
-use Rattle.tokens.specs.Streams.{Stream, left, ahead}
+use Rattle.tokens.specs.Streams.{left}
 use Rattle.reading.specs.declared.First.{First}
-use Rattle.conditions.specs.Outcomes.{chain, bind}
+use Rattle.conditions.specs.Outcomes.{chain}
 use Rattle.conditions.specs.Conditions.{cond_at}
 use Rattle.reading.specs.Steps.{step_at, script_at, block_at, close_block, next_step, step_on, while_of}
-use Rattle.conditions.proofs.Conds.{turn, fall, done, left_less, without, going}
+use Rattle.conditions.proofs.Conds.{fall, done, left_less, without, going}
 use Rattle.reading.proofs.Stores.{fits, room_after, room_joined, room_counted, store_one, store_two, drafted_err}
 use Rattle.reading.proofs.StepEats.{step_eats, next_eats}
 use Rattle.reading.proofs.Growth.{growing}

@@ -1,4 +1,4 @@
-use Rattle.std.proofs.Common.{◌≡◌, ◌+◌, ◌*◌}
+use Rattle.std.proofs.Common.{◌+◌, ◌*◌}
 use Rattle.tokens.specs.Streams.{left, ahead}
 use Rattle.reading.specs.Drafts.{Room}
 use Rattle.reading.proofs.Growth.{Growing}

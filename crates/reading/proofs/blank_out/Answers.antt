@@ -1,4 +1,4 @@
-use Rattle.std.proofs.Common.{◌≡◌, sym, refl, ap, ◌∙◌, arith, rules}
+use Rattle.std.proofs.Common.{arith}
 use Rattle.reading.proofs.Blanking.{blank_none, blank_more, blank_all}
 use Rattle.reading.proofs.blank_out.Goals as goal
 

@@ -1,4 +1,4 @@
-use Rattle.std.proofs.Common.{◌≡◌, ◌-◌, ◌++◌, length, take, replicate}
+use Rattle.std.proofs.Common.{◌≡◌, ◌-◌, ◌++◌, take, replicate}
 use Rattle.script.specs.declared.node.Node.TheVariants.{Blank}
 use Rattle.reading.proofs.blank_out.Given as goal
 

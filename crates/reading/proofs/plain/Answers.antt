@@ -1,11 +1,9 @@
-use Rattle.std.proofs.Common.{◌≡◌, ℕ, List, [], ◌∷◌, Ok, Err, sym, refl, ap, ◌∙◌}
+use Rattle.std.proofs.Common.{◌≡◌, ℕ, [], ◌∷◌, sym, refl, ap, ◌∙◌}
 use Rattle.atoms.specs.declared.AtomSet.{AtomSet}
-use Rattle.script.specs.declared.node.Node.{Node}
 use Rattle.script.specs.declared.node.Node.TheVariants.{Test}
-use Rattle.script.specs.Trees.{Tree, ordered, tested}
-use Rattle.tokens.specs.Streams.{Stream, left}
+use Rattle.script.specs.Trees.{ordered, tested}
+use Rattle.tokens.specs.Streams.{left}
 use Rattle.reading.specs.declared.Leaf.{Leaf}
-use Rattle.conditions.specs.Outcomes.{Out}
 use Rattle.reading.specs.Steps.{plain_of}
 use Rattle.conditions.proofs.Conds.{going}
 use Rattle.reading.proofs.plain.Goals as goal

@@ -1,5 +1,4 @@
-use Rattle.std.proofs.Common.{◌≡◌, ℕ, suc, ◌+◌, List, [], ◌∷◌, ◌++◌, take, set, sym, refl, ap, ◌∙◌, add-one, take-suc-set}
-use Rattle.script.specs.declared.node.Node.{Node}
+use Rattle.std.proofs.Common.{ℕ, take, set, refl, ap, ◌∙◌, add-one, take-suc-set}
 use Rattle.reading.proofs.push.Goals as goal
 
 pub returns : goal.returns

@@ -1,9 +1,9 @@
-use Rattle.std.proofs.Common.{◌≡◌, ℕ, ◌+◌, ◌<◌, ◌≤◌, cond, sym, refl, ap, ◌∙◌, subst, arith, rules}
+use Rattle.std.proofs.Common.{ℕ, ◌+◌, cond, sym, refl, ap, ◌∙◌, subst, arith, rules}
 use Rattle.atoms.specs.Sets.{member}
 use Rattle.automata.specs.declared.Move.{Move}
 use Rattle.automata.specs.declared.Move.TheVariants.{Accept}
 use Rattle.labels.specs.declared.Order.{Order as Said}
-use Rattle.automata.specs.Walks.{first_move, after_move, then_move, turn_move, orders_in}
+use Rattle.automata.specs.Walks.{first_move, then_move, turn_move, orders_in}
 use Rattle.script.specs.Trees.{Tree, joined, branched, guarded, looped, orders, expr_of}
 use Rattle.script.specs.Lists.{Placed}
 use Rattle.script.proofs.Parts.{some, of_blank, of_sequence, of_if, of_when, of_while}

@@ -1,10 +1,10 @@
-use Rattle.std.proofs.Common.{◌≡◌, ℕ, ◌+◌, ◌<◌, ◌≤◌, cond, sym, refl, ap, ◌∙◌, subst, arith, rules}
+use Rattle.std.proofs.Common.{ℕ, ◌+◌, cond, sym, refl, ap, ◌∙◌, subst, arith, rules}
 use Rattle.atoms.specs.Sets.{member}
 use Rattle.automata.specs.declared.Move.{Move}
 use Rattle.automata.specs.declared.Move.TheVariants.{Accept}
 use Rattle.labels.specs.declared.Order.{Order as Said}
 use Rattle.automata.specs.Walks.{then_move, turn_move}
-use Rattle.script.specs.Trees.{Tree, ordered, joined, branched, guarded, looped, orders}
+use Rattle.script.specs.Trees.{joined, branched, guarded, looped, orders}
 use Rattle.script.specs.Lists.{Placed}
 use Rattle.script.proofs.Parts.{some, of_blank, of_order, of_sequence, of_if, of_when, of_while}
 use Rattle.script.proofs.Says.{says_order, says_test, says_two, says_one}

@@ -1,5 +1,4 @@
-use Rattle.std.proofs.Common.{◌≡◌, Bool, true, false, ◌&&◌, drop, sym, refl, ap, ◌∙◌, rules}
-use Rattle.script.specs.Lists.{all_blank}
+use Rattle.std.proofs.Common.{true, false, sym, ◌∙◌}
 use Rattle.script.proofs.Blanks.{blank_here, blank_end}
 use Rattle.script.proofs.blank_from.Goals as goal
 

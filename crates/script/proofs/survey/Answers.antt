@@ -1,4 +1,4 @@
-use Rattle.std.proofs.Common.{◌≡◌, ℕ, List, drop, sym, refl, ap, ◌∙◌, arith, rules}
+use Rattle.std.proofs.Common.{drop, sym, refl, arith, rules}
 use Rattle.script.proofs.Tallies.{go_on, give_up, Stops, stops_end, stops_at, not_one, not_blank_rest, too_many, whole}
 use Rattle.script.proofs.survey.Goals as goal
 use Rattle.script.proofs.survey.Goals.{then-loop-at-test+else-not-is_blank, else-loop-at-test}

@@ -1,4 +1,4 @@
-use Rattle.std.proofs.Common.{◌≡◌, ◌+◌, length, Some, None, sym, ap, ◌∙◌, arith, rules, eq-eqb, ne_eqb}
+use Rattle.std.proofs.Common.{◌≡◌, length, Some, None, sym, ap, ◌∙◌, arith, eq-eqb, ne_eqb}
 use Rattle.requests.specs.Words.{joined, test_in}
 use Rattle.requests.proofs.Steps.{part, letter_more, plus_more, tests_all}
 use Rattle.requests.proofs.atom.tests_of.Goals as goal

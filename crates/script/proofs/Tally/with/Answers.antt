@@ -1,6 +1,6 @@
-use Rattle.std.proofs.Common.{◌≡◌, List, sym, refl, ap, ◌∙◌, arith, rules}
+use Rattle.std.proofs.Common.{refl, ap, arith, rules}
 use Rattle.script.specs.declared.node.Node.{Node}
-use Rattle.script.specs.Trees.{Tree, ordered, tested, joined, branched, guarded, looped}
+use Rattle.script.specs.Trees.{ordered, tested, joined, branched, guarded, looped}
 use Rattle.script.specs.Lists.{grown}
 use Rattle.script.proofs.Tallies.{make_leaf, make_two, wrap}
 use Rattle.script.proofs.Tally.with.Goals as goal

@@ -1,4 +1,4 @@
-use Rattle.std.proofs.Common.{◌≡◌, Bool, true, false, sym, refl, ap, ◌∙◌}
+use Rattle.std.proofs.Common.{true, false, sym, ◌∙◌}
 use Rattle.script.specs.Machines.{of_kind}
 use Rattle.script.proofs.Suits.{every_here, every_end}
 use Rattle.script.proofs.machine.all_suit.Goals as goal

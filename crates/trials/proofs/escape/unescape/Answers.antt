@@ -1,10 +1,10 @@
-use Rattle.std.proofs.Common.{◌+◌, [], ◌∷◌, ◌++◌, drop, vec_items, sym, ap, ◌∙◌}
+use Rattle.std.proofs.Common.{◌+◌, drop, vec_items, sym, ap, ◌∙◌}
 use Rattle.trials.specs.declared.escape.Escape.TheVariants.{Nothing}
 use Rattle.trials.specs.declared.escape.Step.TheVariants.{On, Byte}
 use Rattle.trials.specs.Escapes.{read_on, end_of}
 use Rattle.trials.proofs.Steps.{read_more, read_all, read_byte}
 use Rattle.trials.proofs.escape.unescape.Goals as goal
-use Rattle.trials.proofs.escape.unescape.Goals.{in-On, in-Byte+in_ok-push}
+use Rattle.trials.proofs.escape.unescape.Goals.{in-On, in-Byte+in_ok-push-in-Byte}
 
 pub loop-b-preserved : goal.loop-b-preserved
 loop-b-preserved c =
@@ -15,11 +15,11 @@ loop-b-preserved c =
           ∙ read_more (vec_items c.loop-b.bytes) c.loop-b.escape c.args.text.now c.loop-b.b-index (On w.in-On.next) c.loop-b-test.true w.in-On.ensures
           ∙ ap (λ v. read_on (vec_items v) (On w.in-On.next) rest) (sym w.bytes-is)
           ∙ ap (λ e. read_on (vec_items c.match-step.bytes) (On e) rest) (sym w.escape-is)
-      | in-Byte+in_ok-push w ↦
+      | in-Byte+in_ok-push-in-Byte w ↦
           c.loop-b.invariant
           ∙ read_more (vec_items c.loop-b.bytes) c.loop-b.escape c.args.text.now c.loop-b.b-index (Byte w.in-Byte.byte) c.loop-b-test.true w.in-Byte.ensures
           ∙ read_byte (vec_items c.loop-b.bytes) w.in-Byte.byte rest
-          ∙ ap (λ bytes. read_on bytes (On Nothing) rest) (sym w.in_ok-push.ensures.items)
+          ∙ ap (λ bytes. read_on bytes (On Nothing) rest) (sym w.in_ok-push-in-Byte.ensures.items)
           ∙ ap (λ v. read_on (vec_items v) (On Nothing) rest) (sym w.bytes-is)
           ∙ ap (λ e. read_on (vec_items c.match-step.bytes) (On e) rest) (sym w.escape-is)
     ]

@@ -1,4 +1,4 @@
-use Rattle.std.proofs.Common.{◌≡◌, ◌+◌, true, false, eqb, [], ◌∷◌, ◌++◌, get_or, drop, Some, vec_items, sym, ap, ◌∙◌, rules}
+use Rattle.std.proofs.Common.{◌≡◌, ◌+◌, true, false, eqb, get_or, drop, Some, vec_items, sym, ap, ◌∙◌, rules}
 use Rattle.std.proofs.lemmas.Bool.{ne_eqb}
 use Rattle.trials.specs.Questions.{listed}
 use Rattle.trials.proofs.Finding.{list_more, list_all}

@@ -1,4 +1,4 @@
-use Rattle.std.proofs.Common.{◌≡◌, ◌+◌, ◌-◌, take, drop, sym, ap, ◌∙◌, arith}
+use Rattle.std.proofs.Common.{◌+◌, ◌-◌, take, drop, sym, ap, ◌∙◌, arith}
 use Rattle.requests.specs.Places.{breaks, since}
 use Rattle.requests.proofs.Steps.{breaks_more, breaks_all, since_more, since_all, choice_le, front}
 use Rattle.requests.proofs.spot.Spot.of.Goals as goal

@@ -1,5 +1,4 @@
-use Rattle.std.proofs.Common.{◌≡◌, ℕ, Option, sym, refl, ap, ◌∙◌, arith}
-use Rattle.script.specs.Trees.{Tree}
+use Rattle.std.proofs.Common.{sym, ap, arith}
 use Rattle.script.specs.Machines.{size_on}
 use Rattle.script.proofs.Moves.{stands, none}
 use Rattle.script.proofs.lent.Script.size.Goals as goal

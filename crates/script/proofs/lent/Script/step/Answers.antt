@@ -1,4 +1,4 @@
-use Rattle.std.proofs.Common.{◌≡◌, sym, refl, ap, ◌∙◌, inl, inr, arith, rules}
+use Rattle.std.proofs.Common.{inl, inr}
 use Rattle.script.proofs.Moves.{stands, none, void_move, outside_move, start_move, later_move}
 use Rattle.script.proofs.lent.Script.step.Goals as goal
 use Rattle.script.proofs.lent.Script.step.Goals.{then-atom-ge-ATOMS-via-then-atom-ge-ATOMS, then-atom-ge-ATOMS-via-else-atom-ge-ATOMS+then-state-self}

@@ -1,4 +1,4 @@
-use Rattle.std.proofs.Common.{◌≡◌, List, sym, ap, ◌∙◌, subst}
+use Rattle.std.proofs.Common.{List, sym, subst}
 use Rattle.script.specs.declared.node.Node.{Node}
 use Rattle.script.specs.Lists.{script_in}
 use Rattle.script.specs.Machines.{size_in, moves_in, MachineOf}
