@@ -1,5 +1,6 @@
 // Why there is no answer, as the program says it.
 ghost use Rattle.marker.specs.declared.failure.Cause.TheVariants.{Memory, Refused};
+ghost use Rattle.marker.specs.declared.failure.Status.TheVariants.{Failed};
 ghost use Rattle.marker.specs.Wrongs.{failure_of};
 ghost use Rattle.std.specs.Prelude.{◌≡◌, None, Option as Optional};
 ghost use Rattle.marker.specs.Spots.{Spotted};
@@ -165,6 +166,8 @@ pub enum Status {
 }
 
 impl From<io::Error> for Status {
+    ghost from_gives = { λ e r. r ≡ Failed };
+
     fn from(_error: io::Error) -> Status {
         Status::Failed
     }

@@ -24,8 +24,8 @@ digits_on (Some n) [] = Some n
 digits_on (Some n) (b ∷ bs) = digits_on (append_digit n b) bs
 
 -- the number that a word of one digit or more writes
-abbrev pub digits_value : List ℕ → Option ℕ
-digits_value w = cond (length w == 0) None (digits_on (Some 0) w)
+abbrev pub number_written : List ℕ → Option ℕ
+number_written w = cond (length w == 0) None (digits_on (Some 0) w)
 
 -- a known word as a test
 abbrev pub as_test : Option Word → Option GalleyTest
@@ -62,4 +62,4 @@ or_else None o = o
 
 -- the atom that a word writes: `none`, a number, or tests
 abbrev pub word_atom : List ℕ → Option ℕ
-word_atom w = cond (bytes_eq w (codes "none")) (Some 0) (or_else (digits_value w) (tests_on (Some 0) [] w))
+word_atom w = cond (bytes_eq w (codes "none")) (Some 0) (or_else (number_written w) (tests_on (Some 0) [] w))

@@ -1,6 +1,6 @@
 // Atoms as words: a number, tests joined by `+`, or `none`.
 ghost use Rattle.std.specs.Prelude.{◌≡◌, ◌<◌, [], IfSome, Some};
-ghost use Rattle.requests.specs.Words.{word_atom, append_digit, digits_value, tests_on, joined, test_in};
+ghost use Rattle.requests.specs.Words.{word_atom, append_digit, number_written, tests_on, joined, test_in};
 
 use atoms::{ATOMS, Test};
 use std::fmt;
@@ -56,7 +56,7 @@ fn tests_of(word: &[u8]) -> Option<u8>
 }
 
 // The number with one decimal digit more; none if the byte is no digit, or past 255.
-pub fn with_digit(number: u8, byte: u8) -> Option<u8>
+fn with_digit(number: u8, byte: u8) -> Option<u8>
     ensures { result ≡ append_digit number byte }
 {
     if byte < b'0' || byte > b'9' {
@@ -68,7 +68,7 @@ pub fn with_digit(number: u8, byte: u8) -> Option<u8>
 
 // The number up to 255 that decimal digits write.
 fn number_of(word: &[u8]) -> Option<u8>
-    ensures { result ≡ digits_value word.now }
+    ensures { result ≡ number_written word.now }
 {
     if word.is_empty() {
         return None;

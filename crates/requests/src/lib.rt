@@ -10,7 +10,7 @@ mod atom;
 mod request;
 mod spot;
 
-pub use atom::{Tests, atom_of, with_digit};
+pub use atom::{Tests, atom_of};
 pub use request::{Command, Request, parse_request};
 pub use spot::Spot;
 

@@ -29,8 +29,8 @@ module _ {L : Type 0} (g : LabelGhosts L) where
       let c = orders_expr x in
       omega arith
 
-  pub target : (fits : Bool) (o : Option Tree) (s a : ℕ) (l : L) (t : ℕ) → moves_in g fits o s a ≡ Step l t → t < size_in fits o
-  target fits o s a l t e = by (stands fits o) e
+  pub target_below : (fits : Bool) (o : Option Tree) (s a : ℕ) (l : L) (t : ℕ) → moves_in g fits o s a ≡ Step l t → t < size_in fits o
+  target_below fits o s a l t e = by (stands fits o) e
     where
       by : (b : Bool) → cond b (labelled (label_of g) (script_move o s a)) Reject ≡ Step l t → t < cond b (size_on o) 0
       by true e = script_target o s a l t e
@@ -41,8 +41,8 @@ module _ {L : Type 0} (g : LabelGhosts L) where
   script_outside (Some x) s a (inl h) = let c = orders_expr x in move_outside (expr_of x) s a (inl (omega arith))
   script_outside (Some x) s a (inr h) = move_outside (expr_of x) s a (inr h)
 
-  pub outside : (fits : Bool) (o : Option Tree) (s a : ℕ) → (size_in fits o ≤ s) ⊎ (atoms ≤ a) → moves_in g fits o s a ≡ Reject
-  outside fits o s a h = by (stands fits o) h
+  pub outside_rejected : (fits : Bool) (o : Option Tree) (s a : ℕ) → (size_in fits o ≤ s) ⊎ (atoms ≤ a) → moves_in g fits o s a ≡ Reject
+  outside_rejected fits o s a h = by (stands fits o) h
     where
       by : (b : Bool) → (cond b (size_on o) 0 ≤ s) ⊎ (atoms ≤ a) → cond b (labelled (label_of g) (script_move o s a)) Reject ≡ Reject
       by true h = ap (labelled (label_of g)) (script_outside o s a h)

@@ -4,7 +4,7 @@ ghost use Rattle.script.specs.Trees.{Tree};
 ghost use Rattle.script.specs.Lists.{script_in};
 ghost use Rattle.script.specs.Machines.{of_kind, passes, every_node, size_on, script_move, size_in, moves_in, MachineOf};
 ghost use Rattle.std.proofs.Common.{rules};
-ghost use Rattle.script.specs.MachineLaws.{target, outside};
+ghost use Rattle.script.specs.MachineLaws.{target_below, outside_rejected};
 
 use crate::lent::Script;
 use crate::node::Node;
@@ -95,9 +95,9 @@ impl<S: Walker, L: Label> Machine for ScriptMachine<S, L> {
 
     ghost small = { Prim.search rules };
 
-    ghost closed = { λ m s a l t e. target (record { kind = L.kind; alike = L.alike; made = L.made; written = L.written }) m.fits (S.Walker.tree m.script) s a l t e };
+    ghost closed = { λ m s a l t e. target_below (record { kind = L.kind; alike = L.alike; made = L.made; written = L.written }) m.fits (S.Walker.tree m.script) s a l t e };
 
-    ghost outside = { λ m s a h. outside (record { kind = L.kind; alike = L.alike; made = L.made; written = L.written }) m.fits (S.Walker.tree m.script) s a h };
+    ghost outside = { λ m s a h. outside_rejected (record { kind = L.kind; alike = L.alike; made = L.made; written = L.written }) m.fits (S.Walker.tree m.script) s a h };
 
     fn size(&self) -> usize {
         let states = self.script.states();

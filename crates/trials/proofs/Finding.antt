@@ -1,6 +1,6 @@
--- Lists with commas, outcomes of questions, and the refusal of a short list.
-use Rattle.std.proofs.Common.{◌≡◌, ℕ, ◌+◌, ◌<◌, ◌≤◌, Bool, cond, eqb, ltb, List, [], ◌∷◌, ◌++◌, length, get_or, drop, Some, Err, vec_items, Vec, sym, ap, ◌∙◌, subst, inr}
-use Rattle.std.proofs.lemmas.List.{at_drop_more, at_drop_all}
+-- Lists of numbers, outcomes of questions, and the refusal of a short list.
+use Rattle.std.proofs.Common.{◌≡◌, ℕ, ◌+◌, ◌<◌, cond, ltb, List, [], ◌∷◌, ◌++◌, length, get_or, Err, vec_items, Vec, sym, ap, ◌∙◌, subst, inr, map, take, Bor}
+use Rattle.std.proofs.lemmas.List.{take_more, map-append}
 use Rattle.std.specs.declared.alloc.Global.{Global}
 use Rattle.automata.specs.declared.Fault.TheVariants.{ShortBuffer}
 use Rattle.automata.specs.declared.Label.{Ghosts as LabelGhosts}
@@ -12,23 +12,28 @@ use Rattle.reading.specs.Readings.{outcome_of}
 use Rattle.answers.specs.declared.Played.{Played}
 use Rattle.answers.specs.Lines.{Plays}
 use Rattle.answers.specs.Told.{text_as, Holding}
-use Rattle.requests.specs.Words.{append_digit}
 use Rattle.trials.specs.declared.outcome.Outcome.{Outcome}
 use Rattle.trials.specs.declared.outcome.Outcome.TheVariants.{Read}
 use Rattle.trials.specs.declared.question.Task.{Task}
 use Rattle.trials.specs.declared.question.Task.TheVariants.{Size, Replay}
+use Rattle.trials.specs.Fields.{Writes, AllWritten}
 use Rattle.trials.specs.Outcomes.{outcome_of as ended_as}
-use Rattle.trials.specs.Questions.{listed, Found}
+use Rattle.trials.specs.Questions.{Found}
 
--- one byte of a list with commas
-pub list_more : (done : List ℕ) (n : ℕ) (xs : List ℕ) (i : ℕ) (b : Bool) → i < length xs → b ≡ eqb (get_or xs i 0) 44
-    → listed done (Some n) (drop i xs) ≡ cond b (listed (done ++ n ∷ []) (Some 0) (drop (i + 1) xs)) (listed done (append_digit n (get_or xs i 0)) (drop (i + 1) xs))
-list_more done n xs i b lt is =
-    at_drop_more (listed done (Some n)) xs i 0 lt
-    ∙ ap (λ v. cond v (listed (done ++ n ∷ []) (Some 0) (drop (i + 1) xs)) (listed done (append_digit n (get_or xs i 0)) (drop (i + 1) xs))) (sym is)
+-- one number and one field more
+pub written_more : (ns : List ℕ) (fields : List (List ℕ)) (n : ℕ) (f : List ℕ) → AllWritten ns fields → Writes n f → AllWritten (ns ++ n ∷ []) (fields ++ f ∷ [])
+written_more [] [] n f all w = (w, tt)
+written_more [] (g ∷ fields) n f all w = absurd all
+written_more (m ∷ ns) [] n f all w = absurd all
+written_more (m ∷ ns) (g ∷ fields) n f all w = (all.0, written_more ns fields n f all.1 w)
 
-pub list_all : (done : List ℕ) (n : ℕ) (xs : List ℕ) (i : ℕ) → length xs ≤ i → listed done (Some n) (drop i xs) ≡ Some (done ++ n ∷ [])
-list_all done n xs i le = at_drop_all (listed done (Some n)) xs i le
+-- the next item of a list writes the next number
+pub written_next : (ns : List ℕ) (items : List (Bor (List ℕ))) (i : ℕ) (d : Bor (List ℕ)) (n : ℕ) → i < length items → AllWritten ns (map (λ x. x.now) (take i items)) → Writes n (get_or items i d).now
+    → AllWritten (ns ++ n ∷ []) (map (λ x. x.now) (take (i + 1) items))
+written_next ns items i d n lt all w =
+    subst (λ fields. AllWritten (ns ++ n ∷ []) fields)
+    (sym (ap (map (λ x. x.now)) (take_more items i d lt) ∙ map-append (λ (x : Bor (List ℕ)). x.now) (take i items) (get_or items i d ∷ [])))
+    (written_more ns (map (λ x. x.now) (take i items)) n (get_or items i d).now all w)
 
 module _ {L : Type 0} (l : LabelGhosts L) (k : Kind) (held text : List ℕ) (same_text : held ≡ text) where
   -- a size that was asked for

@@ -1,5 +1,6 @@
 -- What a line asks, and what is found.
-use Rattle.std.specs.Prelude.{◌≡◌, ℕ, cond, ◌⊎◌, List, [], ◌∷◌, ◌++◌, Some, None, Err, vec_items, codes, Option, ◌==◌}
+use Rattle.std.specs.Prelude.{◌≡◌, ℕ, if◌then◌else◌, ◌⊎◌, List, [], ◌∷◌, Some, Err, vec_items, codes, ◌==◌}
+use Rattle.std.specs.List.{slice_split}
 use Rattle.std.specs.Str.{bytes_eq}
 use Rattle.automata.specs.declared.Fault.{Fault}
 use Rattle.automata.specs.declared.Label.{Ghosts as LabelGhosts}
@@ -11,26 +12,23 @@ use Rattle.labels.specs.Kinds.{bare_labels, measured_labels}
 use Rattle.answers.specs.declared.Cause.{Cause}
 use Rattle.answers.specs.declared.Cause.TheVariants as cause
 use Rattle.answers.specs.Told.{text_as, Holding}
-use Rattle.requests.specs.Words.{append_digit}
 use Rattle.trials.specs.declared.outcome.Outcome.{Outcome}
 use Rattle.trials.specs.declared.outcome.Outcome.TheVariants.{Read, Refused}
 use Rattle.trials.specs.declared.question.Task.{Task}
 use Rattle.trials.specs.declared.question.Task.TheVariants.{Size, Replay}
 use Rattle.trials.specs.declared.question.Question.{Question}
 use Rattle.trials.specs.Escapes.{unescaped}
-use Rattle.trials.specs.Fields.{Writes}
+use Rattle.trials.specs.Fields.{Writes, AllWritten}
 use Rattle.trials.specs.Kinds.{Numbers}
 use Rattle.trials.specs.Outcomes.{outcome_of}
 
--- the numbers so far, the one that is being read, and the rest of a list with commas
-abbrev pub listed : List ℕ → Option ℕ → List ℕ → Option (List ℕ)
-listed done None rest = None
-listed done (Some n) [] = Some (done ++ n ∷ [])
-listed done (Some n) (b ∷ bs) = cond (b == 44) (listed (done ++ n ∷ []) (Some 0) bs) (listed done (append_digit n b) bs)
+-- the items of a list with commas; `-` stands for none
+abbrev pub items_in : List ℕ → List (List ℕ)
+items_in field = if bytes_eq field (codes "-") then [] else slice_split (λ b. b == 44) field
 
--- the atoms of a list with commas; `-` stands for none
+-- the atoms that the items of a list write
 abbrev pub Atoms : List ℕ → List ℕ → Type 0
-Atoms field atoms = cond (bytes_eq field (codes "-")) (Some []) (listed [] (Some 0) field) ≡ Some atoms
+Atoms field atoms = AllWritten atoms (items_in field)
 
 -- a replay from the state and over the atoms that the fields write
 abbrev pub Replays : List ℕ → List ℕ → Task → Type 0

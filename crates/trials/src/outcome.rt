@@ -31,7 +31,7 @@ pub(crate) fn number(field: &str) -> anyhow::Result<usize>
 }
 
 // The number up to 255 that a field writes in decimal digits.
-fn byte(field: &str) -> anyhow::Result<u8>
+pub(crate) fn byte(field: &str) -> anyhow::Result<u8>
     ensures { IfOk result (λ n. Writes n field.now) }
 {
     Ok(field.parse::<u8>()?)

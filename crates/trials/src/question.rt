@@ -1,20 +1,20 @@
 // What a line of a file asks the libraries.
-ghost use Rattle.std.specs.Prelude.{◌≡◌, [], map, IfOk, Some, Err, codes};
+ghost use Rattle.std.specs.Prelude.{◌≡◌, ◌==◌, [], map, IfOk, Err, codes};
 ghost use Rattle.automata.specs.declared.Fault.{Fault as Failing};
 ghost use Rattle.automata.specs.Faults.{number_of, layer_of, place_of};
-ghost use Rattle.reading.specs.Readings.{outcome_of as readAs};
-ghost use Rattle.requests.specs.Words.{append_digit};
+ghost use Rattle.reading.specs.Readings.{outcome_of as read_as};
+ghost use Rattle.trials.specs.Fields.{AllWritten};
+ghost use Rattle.std.specs.List.{slice_split};
 ghost use Rattle.trials.specs.Kinds.{Numbers};
-ghost use Rattle.trials.specs.Questions.{listed, Atoms, Replays, Questions, Asks, Declined, Found, FoundBy};
+ghost use Rattle.trials.specs.Questions.{Atoms, Replays, Questions, Asks, Declined, Found, FoundBy};
 
 use crate::escape::unescape;
-use crate::outcome::{Outcome, number};
+use crate::outcome::{Outcome, byte, number};
 use answers::{Cause, replay, states};
 use anyhow::anyhow;
 use automata::{Label, Machine, run};
 use labels::{Bare, Kind, Measured, Spelled};
 use reading::read;
-use requests::with_digit;
 use script::{Node, Script, ScriptMachine};
 use std::alloc::Global;
 
@@ -47,31 +47,15 @@ fn kind_of(field: &str) -> anyhow::Result<Kind>
 }
 
 // The numbers of a list with commas.
-fn numbers_of(heap: Global, list: &[u8]) -> anyhow::Result<Vec<u8>>
-    ensures { IfOk result (λ v. listed [] (Some 0) list.now ≡ Some v.items) }
+fn numbers_of(heap: Global, list: &str) -> anyhow::Result<Vec<u8>>
+    ensures { IfOk result (λ v. AllWritten v.items (slice_split (λ b. b == 44) list.now)) }
 {
+    let items = list.split(',').collect::<Vec<&str>>(heap)?;
     let mut numbers = Vec::new(heap);
-    let mut number = 0;
-    for b in list {
-        if *b == b',' {
-            numbers.push(number)?;
-            number = 0;
-        } else {
-            number = more_digits(number, *b)?;
-        }
+    for item in &items {
+        numbers.push(byte(item)?)?;
     }
-    numbers.push(number)?;
     Ok(numbers)
-}
-
-// The number with one digit more.
-fn more_digits(number: u8, digit: u8) -> anyhow::Result<u8>
-    ensures { IfOk result (λ n. append_digit number digit ≡ Some n) }
-{
-    match with_digit(number, digit) {
-        Some(more) => Ok(more),
-        None => Err(anyhow!("an atom that is no number up to 255")),
-    }
 }
 
 // The atoms of a list with commas; `-` stands for none.
@@ -82,7 +66,7 @@ fn atoms_of(heap: Global, field: &str) -> anyhow::Result<Vec<u8>>
     if field == "-" {
         return Ok(Vec::new(heap));
     }
-    numbers_of(heap, field.as_bytes())
+    numbers_of(heap, field)
 }
 
 // What is asked of a script from a state on, by the fields of the state and the atoms.
@@ -92,17 +76,6 @@ fn replay_of(heap: Global, state: &str, atoms: &str) -> anyhow::Result<Task>
     Ok(Task::Replay {
         state: number(state)?,
         atoms: atoms_of(heap, atoms)?,
-    })
-}
-
-// A script as its fields write it, with what is asked of it.
-fn script_asked(heap: Global, kind: &str, text: &str, task: Task) -> anyhow::Result<Question>
-    ensures { IfOk result (λ q. Questions kind.now text.now task q) }
-{
-    Ok(Question {
-        kind: kind_of(kind)?,
-        text: unescape(heap, text.as_bytes())?,
-        task,
     })
 }
 
@@ -116,11 +89,22 @@ impl Question {
     {
         match fields {
             ["read", kind, text, rest @ ..] => {
-                Ok((script_asked(heap, kind, text, Task::Size)?, rest))
+                let kind = kind_of(kind)?;
+                let text = unescape(heap, text.as_bytes())?;
+                Ok((
+                    Question {
+                        kind,
+                        text,
+                        task: Task::Size,
+                    },
+                    rest,
+                ))
             }
             ["replay", kind, text, state, atoms, rest @ ..] => {
+                let kind = kind_of(kind)?;
+                let text = unescape(heap, text.as_bytes())?;
                 let task = replay_of(heap, state, atoms)?;
-                Ok((script_asked(heap, kind, text, task)?, rest))
+                Ok((Question { kind, text, task }, rest))
             }
             _ => Err(anyhow!("a line that asks nothing known")),
         }
@@ -177,7 +161,7 @@ fn task_on<L: Label>(nodes: &[Node], task: &Task) -> Outcome {
 
 // What reading answers: the size of the script's machine, or a refusal.
 pub(crate) fn read_into(kind: Kind, text: &[u8], nodes: &mut [Node]) -> Outcome
-    ensures { (f : Failing) → readAs kind text.now nodes.old ≡ Err f → result ≡ Outcome.Refused (number_of f) (layer_of f) (place_of f) }
+    ensures { (f : Failing) → read_as kind text.now nodes.old ≡ Err f → result ≡ Outcome.Refused (number_of f) (layer_of f) (place_of f) }
 {
     match read(kind, text, nodes) {
         Err(fault) => Outcome::refused(fault),

@@ -1,6 +1,6 @@
-use Rattle.std.proofs.Common.{◌≡◌, [], drop, Some, vec_items}
-use Rattle.trials.specs.Questions.{listed}
+use Rattle.std.proofs.Common.{map, take, vec_items}
+use Rattle.trials.specs.Fields.{AllWritten}
 use Rattle.trials.proofs.question.numbers_of.Given as goal
 
-abbrev pub invariant-loop-b : goal.invariant-loop-b
-invariant-loop-b l = listed [] (Some 0) l.list ≡ listed (vec_items l.numbers) (Some l.number) (drop l.b-index l.list)
+abbrev pub invariant-loop-item : goal.invariant-loop-item
+invariant-loop-item l = AllWritten (vec_items l.numbers) (map (λ x. x.now) (take l.item-index l.item-items))
