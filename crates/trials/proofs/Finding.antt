@@ -40,7 +40,7 @@ module _ {L : Type 0} (l : LabelGhosts L) (k : Kind) (held text : List ℕ) (sam
   pub found_size : (task : Task) (n : ℕ) → task ≡ Size → Holding l k held (λ size moves. n ≡ size) → Found l k text task (Read n)
   found_size task n e h =
       let g : Holding l k text (λ size moves. n ≡ size) = subst (λ t. Holding l k t (λ size moves. n ≡ size)) same_text h in
-      subst (λ q. Found l k text q (Read n)) (sym e) (inr (g.0, g.1, g.2, g.3, g.4, ap Read g.5))
+      subst (λ q. Found l k text q (Read n)) (sym e) (inr (g.0, g.1, g.2, g.3, g.4, g.5, ap Read g.6))
 
   -- a run that was asked for
   pub found_run : (said : L → Order) (task : Task) (s : ℕ) (atoms : Vec ℕ Global) (bytes : List ℕ) (x : Played) (o : Outcome) → task ≡ Replay s atoms → bytes ≡ vec_items atoms
@@ -48,7 +48,7 @@ module _ {L : Type 0} (l : LabelGhosts L) (k : Kind) (held text : List ℕ) (sam
   found_run said task s atoms bytes x o e same is h =
       let f : Holding l k text (λ size moves. Plays said moves s bytes x) = subst (λ t. Holding l k t (λ size moves. Plays said moves s bytes x)) same_text h in
       let g : Holding l k text (λ size moves. Plays said moves s (vec_items atoms) x) = subst (λ bs. Holding l k text (λ size moves. Plays said moves s bs x)) same f in
-      subst (λ q. Found l k text q o) (sym e) (inr (g.0, g.1, g.2, g.3, g.4, is ∙ ap ended_as g.5.1))
+      subst (λ q. Found l k text q o) (sym e) (inr (g.0, g.1, g.2, g.3, g.4, g.5, is ∙ ap ended_as g.6.1))
 
 -- a list that is one record short is refused for that
 pub short_refused : (k : Kind) (text : List ℕ) (ns : List Node) → length ns ≡ 1023 → outcome_of k text ns ≡ Err ShortBuffer
