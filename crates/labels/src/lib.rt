@@ -155,7 +155,7 @@ impl Spelled for Bare {
     ghost said = { said_bare };
 
     fn spelled(self) -> Order {
-        self.order()
+        Bare::order(self)
     }
 }
 
@@ -208,7 +208,7 @@ impl Spelled for Measured {
     ghost said = { said_measured };
 
     fn spelled(self) -> Order {
-        self.order()
+        Measured::order(self)
     }
 }
 
