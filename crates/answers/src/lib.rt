@@ -1,8 +1,9 @@
 // What the text of a script answers: the size of its machine, and the moves that it makes on a list of atoms.
 #![tactic(auto)]
 
-ghost use Rattle.std.specs.Prelude.{◌≡◌, length, IfOk, Ok, Err};
-ghost use Rattle.reading.specs.Drafts.{node_records};
+ghost use Rattle.std.specs.Prelude.{◌≡◌, IfOk};
+ghost use Rattle.std.specs.Fn.{FnOnceReturnsAt};
+ghost use Rattle.script.specs.Machines.{size_on, tree_of, moves_in};
 ghost use Rattle.answers.specs.declared.Cause.TheVariants.{Refused, Memory};
 ghost use Rattle.answers.specs.Lines.{told_move, lines_of, Plays};
 ghost use Rattle.answers.specs.Told.{Told};
@@ -10,7 +11,7 @@ ghost use Rattle.answers.specs.Told.{Told};
 use automata::{Ending, Fault, Label, Machine, Move, run};
 use labels::{Kind, Order, Spelled};
 use reading::{NODE_RECORDS, read};
-use script::{Node, Script, ScriptMachine};
+use script::{Node, ScriptMachine};
 use std::alloc::{AllocError, Global};
 
 // Why a text has no answer.
@@ -50,24 +51,29 @@ pub struct Played {
     pub ending: Ending,
 }
 
-// How many states the machine of a script has, by way of a node list.
-fn size_in<L: Label>(kind: Kind, text: &[u8], nodes: &mut [Node]) -> Result<usize, Cause>
-    requires { length nodes.old ≡ node_records }
-    ensures { Told L.Label kind text.now (λ n size moves. n ≡ size) result }
+// What is asked of the machine of a script. Heap, kind and text are no struct of their own: it would be taken apart here at once.
+fn asked<L: Label, T, F: FnOnce(&ScriptMachine<L>) -> Result<T, AllocError>>(
+    heap: Global,
+    kind: Kind,
+    text: &[u8],
+    ask: F,
+) -> Result<T, Cause>
+    requires { F.IsAlwaysCallable ask }
+    ensures { Told L.Label kind text.now (λ x size moves. (m : _) × FnOnceReturnsAt F.FnOnce ask m (Ok x) × (size ≡ size_on (tree_of m.script)) × (moves ≡ moves_in L.Label (tree_of m.script))) result }
 {
-    read(kind, text, nodes)?;
-    Ok(ScriptMachine::<Script, L>::of(nodes).size())
+    let mut nodes = vec![in heap; Node::Blank; NODE_RECORDS]?;
+    read(kind, text, &mut nodes)?;
+    Ok(ask(&ScriptMachine::of(&nodes))?)
 }
 
 // How many states the machine of a script has.
 pub fn states<L: Label>(heap: Global, kind: Kind, text: &[u8]) -> Result<usize, Cause>
     ensures { Told L.Label kind text.now (λ n size moves. n ≡ size) result }
 {
-    let mut nodes = vec![in heap; Node::Blank; NODE_RECORDS]?;
-    size_in::<L>(kind, text, &mut nodes[..])
+    asked::<L, _, _>(heap, kind, text, |machine| Ok(machine.size()))
 }
 
-// The same move with the order that its label stands for.
+// The same move with the order that its label stands for; no `From`, since Move is of another crate.
 fn told<L: Spelled>(made: Move<L>) -> Move<Order>
     ensures { result ≡ told_move L.Spelled.said made }
 {
@@ -98,31 +104,11 @@ where
             made: told(made),
         })?;
         match made {
-            Move::Step(_, target) => at = target as usize,
+            Move::Step(_, target) => at = usize::from(target),
             _ => return Ok(lines),
         }
     }
     Ok(lines)
-}
-
-// The run of a script's machine, by way of a node list.
-fn replay_in<L: Spelled>(
-    heap: Global,
-    kind: Kind,
-    text: &[u8],
-    nodes: &mut [Node],
-    state: usize,
-    atoms: &[u8],
-) -> Result<Played, Cause>
-    requires { length nodes.old ≡ node_records }
-    ensures { Told L.Label kind text.now (λ x size moves. Plays L.Spelled.said moves state atoms.now x) result }
-{
-    read(kind, text, nodes)?;
-    let machine = ScriptMachine::<Script, L>::of(nodes);
-    Ok(Played {
-        lines: lines(heap, &machine, state, atoms)?,
-        ending: run(&machine, state, atoms),
-    })
 }
 
 // The run of a script's machine from a state over the atoms.
@@ -135,6 +121,17 @@ pub fn replay<L: Spelled>(
 ) -> Result<Played, Cause>
     ensures { Told L.Label kind text.now (λ x size moves. Plays L.Spelled.said moves state atoms.now x) result }
 {
-    let mut nodes = vec![in heap; Node::Blank; NODE_RECORDS]?;
-    replay_in::<L>(heap, kind, text, &mut nodes[..], state, atoms)
+    asked::<L, _, _>(
+        heap,
+        kind,
+        text,
+        |machine| -> Result<Played, AllocError>
+            ensures { IfOk result (λ x. Plays L.Spelled.said (moves_in L.Label (tree_of machine.now.script)) state atoms.entry.now x) }
+        {
+            Ok(Played {
+                lines: lines(heap, machine, state, atoms)?,
+                ending: run(machine, state, atoms),
+            })
+        },
+    )
 }

@@ -1,5 +1,5 @@
 -- The tests of a galley, and atoms: which of them hold.
-use Rattle.std.specs.Prelude.{ℕ, ◌/◌, ◌%◌, ◌^◌, Bool, ◌==◌}
+use Rattle.std.specs.Prelude.{ℕ, ◌/◌, ◌%◌, ◌^◌, Bool, List, codes, ◌==◌}
 use Rattle.atoms.specs.declared.Test.{Test}
 use Rattle.atoms.specs.declared.Test.TheVariants.{Widow, Orphan, Head, Figure, Note, Last}
 
@@ -19,6 +19,15 @@ weight_of Head = 4
 weight_of Figure = 8
 weight_of Note = 16
 weight_of Last = 32
+
+-- the word that a script writes for a test
+abbrev pub name_of : Test → List ℕ
+name_of Widow = codes "widow"
+name_of Orphan = codes "orphan"
+name_of Head = codes "head"
+name_of Figure = codes "figure"
+name_of Note = codes "note"
+name_of Last = codes "last"
 
 -- whether the test holds at the atom, which is the sum of the weights of the tests that do
 abbrev pub holds_at : Test → ℕ → Bool

@@ -2,14 +2,16 @@
 #![tactic(auto)]
 
 ghost use Rattle.std.specs.Prelude.{◌≡◌, ℕ, ◌-◌, ◌<◌, Bool, true, false, not, ◌&&◌, ◌||◌, MatchOption, bit_and, bit_or, nat_lt};
-ghost use Rattle.atoms.specs.Atoms.{atoms, weight_of, holds_at};
+ghost use Rattle.atoms.specs.Atoms.{atoms, weight_of, name_of, holds_at};
 ghost use Rattle.atoms.specs.Sets.{member, counted, Least, every, set_of};
+
+use std::fmt;
 
 // How many atoms there are: each of the six tests holds or does not.
 pub const ATOMS: u8 = 64;
 
 // What a script can ask of a galley.
-#[derive(Clone, Copy, Debug)]
+#[derive(Clone, Copy, Debug, PartialEq, Eq)]
 pub enum Test {
     Widow,
     Orphan,
@@ -20,6 +22,30 @@ pub enum Test {
 }
 
 impl Test {
+    // The tests, by their weights.
+    pub const ALL: [Test; 6] = [
+        Test::Widow,
+        Test::Orphan,
+        Test::Head,
+        Test::Figure,
+        Test::Note,
+        Test::Last,
+    ];
+
+    // The word that a script writes for the test.
+    pub fn name(self) -> &'static str
+        ensures { result.now ≡ name_of self }
+    {
+        match self {
+            Test::Widow => "widow",
+            Test::Orphan => "orphan",
+            Test::Head => "head",
+            Test::Figure => "figure",
+            Test::Note => "note",
+            Test::Last => "last",
+        }
+    }
+
     // What the test adds to an atom at which it holds.
     pub fn weight(self) -> u8
         ensures { result ≡ weight_of self }
@@ -35,6 +61,7 @@ impl Test {
     }
 
     // The atoms at which the test holds.
+    #[tactic(auto, using(crate::proofs::Table::member_set_is))]
     pub fn set(self) -> AtomSet
         ensures is { result.bits ≡ set_of self }
         ensures members { (k : ℕ) → member result.bits k ≡ (nat_lt k atoms && holds_at self k) }
@@ -51,8 +78,14 @@ impl Test {
     }
 }
 
+impl fmt::Display for Test {
+    fn fmt<W: fmt::Write>(&self, f: &mut fmt::Formatter<W>) -> fmt::Result {
+        f.write_str(self.name())
+    }
+}
+
 // A set of atoms: the bit of weight 2^a stands for the atom a.
-#[derive(Clone, Copy, Debug)]
+#[derive(Clone, Copy, Debug, PartialEq, Eq)]
 pub struct AtomSet {
     bits: u64,
 }
@@ -89,6 +122,7 @@ impl AtomSet {
         if self.bits == 0 {
             None
         } else {
+            // A narrowing cast: that the number is below 64 is proved, and `try_from` would ask for an answer that never comes.
             Some(self.bits.trailing_zeros() as u8)
         }
     }
@@ -97,7 +131,7 @@ impl AtomSet {
     pub fn size(self) -> u32
         ensures { result ≡ counted self.bits atoms }
     {
-        u64::count_ones(self.bits)
+        self.bits.count_ones()
     }
 
     // The members of either.

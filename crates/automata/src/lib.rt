@@ -8,15 +8,19 @@ ghost use Rattle.automata.specs.declared.Move.TheVariants.{Accept, Reject, Step}
 ghost use Rattle.automata.specs.Faults.{number_of, layer_of, place_of};
 ghost use Rattle.automata.specs.Runs.{ended};
 
+use std::error::Error;
+use std::fmt;
+
 // What a state does at an atom: it accepts, rejects, or gives an order, the label, and goes on at the target.
-#[derive(Clone, Copy, Debug)]
+#[derive(Clone, Copy, Debug, PartialEq, Eq)]
 pub enum Move<L> {
     Accept,
     Reject,
     Step(L, u16),
 }
 
-// A kind of label. A label is what an order says; its kind has a number and tells which labels are the same.
+// A kind of label. A label is what an order says; its kind has a number and tells which labels are the same. These are methods, and
+// not PartialEq and TryFrom: unlike labels can be the same, and the laws below tie the methods to one another.
 pub trait Label: Copy {
     // the kind's number
     ghost kind: { ℕ };
@@ -82,7 +86,7 @@ pub trait Machine {
 }
 
 // Why a call is refused. docs/REFUSALS.md has the table; a place is counted in bytes from 0.
-#[derive(Clone, Copy, Debug)]
+#[derive(Clone, Copy, Debug, PartialEq, Eq)]
 pub enum Fault {
     // a buffer is below its fixed length
     ShortBuffer,
@@ -119,7 +123,7 @@ pub enum Fault {
 }
 
 impl Fault {
-    // The fault's number.
+    // The fault's number, as it is told: the enum is the fault itself, and a further type for its number or layer would say no more.
     pub fn number(&self) -> u8
         ensures { result ≡ number_of self.now }
     {
@@ -163,29 +167,50 @@ impl Fault {
     pub fn place(&self) -> Option<usize>
         ensures { result ≡ place_of self.now }
     {
-        match self {
+        match *self {
             Fault::ShortBuffer => Some(0),
             Fault::LongText => Some(16384),
-            Fault::StrayByte(p) => Some(*p),
-            Fault::LargeNumber(p) => Some(*p),
-            Fault::UnknownWord(p) => Some(*p),
-            Fault::Unexpected(p) => Some(*p),
-            Fault::NoMeasure(p) => Some(*p),
-            Fault::TooDeep(p) => Some(*p),
-            Fault::TooManySteps(p) => Some(*p),
-            Fault::VoidMachine => None,
-            Fault::NoSuchState => None,
-            Fault::WrongHead(p) => Some(*p),
-            Fault::WrongRow(p) => Some(*p),
-            Fault::RowsUnordered(p) => Some(*p),
-            Fault::RowsOverlap(p) => Some(*p),
+            Fault::StrayByte(place) | Fault::LargeNumber(place) | Fault::UnknownWord(place) => Some(
+                place,
+            ),
+            Fault::Unexpected(place) | Fault::TooDeep(place) => Some(place),
+            Fault::NoMeasure(place) | Fault::TooManySteps(place) => Some(place),
+            Fault::VoidMachine | Fault::NoSuchState => None,
+            Fault::WrongHead(place) | Fault::WrongRow(place) => Some(place),
+            Fault::RowsUnordered(place) | Fault::RowsOverlap(place) => Some(place),
             Fault::TooManyRows => Some(32778),
         }
     }
 }
 
+// What the fault says, in words.
+impl fmt::Display for Fault {
+    fn fmt<W: fmt::Write>(&self, f: &mut fmt::Formatter<W>) -> fmt::Result {
+        f.write_str(match self {
+            Fault::ShortBuffer => "buffer below its fixed length",
+            Fault::LongText => "text over 16,384 bytes",
+            Fault::StrayByte(_) => "byte that begins no token",
+            Fault::LargeNumber(_) => "number over 127 or over three digits",
+            Fault::UnknownWord(_) => "word not known",
+            Fault::Unexpected(_) => "token or end of text that the grammar does not allow",
+            Fault::NoMeasure(_) => "`by` with labels that have no measure",
+            Fault::TooDeep(_) => "33rd level",
+            Fault::TooManySteps(_) => "256th step",
+            Fault::VoidMachine => "void machine",
+            Fault::NoSuchState => "state not below the size",
+            Fault::WrongHead(_) => "head field or length wrong",
+            Fault::WrongRow(_) => "row field out of range or label declined",
+            Fault::RowsUnordered(_) => "row's state below the row before",
+            Fault::RowsOverlap(_) => "row shares an atom with an earlier row of its state",
+            Fault::TooManyRows => "more than 2,048 rows to save",
+        })
+    }
+}
+
+impl Error for Fault {}
+
 // How a run over a list of atoms ends; places count from 0.
-#[derive(Clone, Copy, Debug)]
+#[derive(Clone, Copy, Debug, PartialEq, Eq)]
 pub enum Ending {
     // the last atom is accepted
     Accepted,
@@ -197,7 +222,8 @@ pub enum Ending {
     Out(usize),
 }
 
-// Runs the machine from a state over the atoms, at most one move for each.
+// Runs the machine from a state over the atoms, at most one move for each. State and atoms are no struct of their own: each caller
+// has them apart, and would build it for this call alone.
 pub fn run<M: Machine>(machine: &M, state: usize, atoms: &[u8]) -> Ending
     ensures { result ≡ ended (M.Machine.moves machine.now) 0 state atoms.now }
 {
@@ -207,7 +233,7 @@ pub fn run<M: Machine>(machine: &M, state: usize, atoms: &[u8]) -> Ending
             Move::Accept if i + 1 == atoms.len() => return Ending::Accepted,
             Move::Accept => return Ending::Early(i),
             Move::Reject => return Ending::Rejected(i),
-            Move::Step(_, target) => at = target as usize,
+            Move::Step(_, target) => at = usize::from(target),
         }
     }
     Ending::Out(atoms.len())

@@ -3,15 +3,10 @@ use Rattle.std.proofs.Common.{◌≡◌, ℕ, zero, suc, ◌+◌, ◌<◌, ◌�
 use Rattle.automata.specs.declared.Fault.{Fault}
 use Rattle.tokens.specs.declared.Mark.{Mark as Sign}
 use Rattle.tokens.specs.Classes.{same_mark}
-use Rattle.tokens.specs.Streams.{Stream, end, bad, word, number, mark, ahead, begins, past}
+use Rattle.tokens.specs.Streams.{Stream, mark, ahead, begins, past}
+use Rattle.tokens.proofs.Ahead.{ahead_past}
 use Rattle.conditions.specs.Outcomes.{Out, bind, more, chain}
-
--- a part takes its tokens from the front
-abbrev pub Eats : {A : Type 0} → (Stream → Out A) → Type 0
-Eats {A} f = (s : Stream) (x : A) (q : Stream) → f s ≡ Ok (x, q) → ahead q ≤ ahead s
-
-no_ok : {A : Type 0} {e : Fault} {x : A × Stream} → ◌≡◌ {A = Out A} (Err e) (Ok x) → ⊥
-no_ok e = let z : ◌≡◌ {A = ℕ} 0 1 = cc in omega arith
+pub use Rattle.conditions.specs.Outcomes.{Eats}
 
 rest_of : {A : Type 0} → Stream → Out A → Stream
 rest_of s (Ok x) = x.1
@@ -23,7 +18,7 @@ unfolding rest_of
 keep {A} x s y q e = let l : ahead s ≡ ahead q = ap (λ (o : Out A). ahead (rest_of s o)) e in omega arith
 
 pub refuse : {A : Type 0} (f : Fault) → Eats {A = A} (λ s. Err f)
-refuse f s y q e = absurd (no_ok e)
+refuse f s y q e = cc
 
 -- a token taken
 pub taken : {A : Type 0} (x : A) (s t : Stream) → ahead s ≤ ahead t → (y : A) (q : Stream) → ◌≡◌ {A = Out A} (Ok (x, s)) (Ok (y, q)) → ahead q ≤ ahead t
@@ -32,32 +27,22 @@ taken x s t h y q e = let k = keep x s y q e in omega arith
 pub bind_eats : {A B : Type 0} (o : Out A) (f : A → Stream → Out B) (s : Stream) → ((x : A) (q : Stream) → o ≡ Ok (x, q) → ahead q ≤ ahead s)
     → ((x : A) → Eats (f x)) → (y : B) (q : Stream) → bind o f ≡ Ok (y, q) → ahead q ≤ ahead s
 bind_eats (Ok v) f s h g y q e = let a = h v.0 v.1 refl in let b = g v.0 v.1 y q e in omega arith
-bind_eats (Err v) f s h g y q e = absurd (no_ok e)
+bind_eats (Err v) f s h g y q e = cc
 
 pub past_less : (m : Sign) (s : Stream) → begins m s ≡ true → ahead (past m s) < ahead s
-past_less m (end p) h = absurd (let z : ◌≡◌ {A = ℕ} 0 1 = cc in omega arith)
-past_less m (bad f) h = absurd (let z : ◌≡◌ {A = ℕ} 0 1 = cc in omega arith)
-past_less m (word p w s) h = absurd (let z : ◌≡◌ {A = ℕ} 0 1 = cc in omega arith)
-past_less m (number p v s) h = absurd (let z : ◌≡◌ {A = ℕ} 0 1 = cc in omega arith)
-past_less m (mark p n s) h = let e = ap (λ (b : Bool). ahead (cond b s (mark p n s))) h in omega arith
+past_less m s h = let e = ahead_past m s h in omega arith
 
 none_begins : (m : Sign) (s : Stream) → ahead s ≤ 0 → begins m s ≡ false
-none_begins m (end p) h = refl
-none_begins m (bad f) h = refl
-none_begins m (word p w s) h = refl
-none_begins m (number p v s) h = refl
 none_begins m (mark p n s) h = absurd (omega arith)
+none_begins m _ h = refl
 
 pub past_le : (m : Sign) (s : Stream) → ahead (past m s) ≤ ahead s
-past_le m (end p) = omega arith
-past_le m (bad f) = omega arith
-past_le m (word p w s) = omega arith
-past_le m (number p v s) = omega arith
 past_le m (mark p n s) = by (same_mark m n)
   where
     by : (b : Bool) → ahead (cond b s (mark p n s)) ≤ 1 + ahead s
     by true = omega arith
     by false = omega arith
+past_le m _ = omega arith
 
 module _ {A : Type 0} (m : Sign) (part : A → Stream → Out A) where
   stop : (n : ℕ) (x : A) (s : Stream) → begins m s ≡ false → more m part n x s ≡ Ok (x, s)

@@ -5,13 +5,14 @@ use Rattle.atoms.specs.Sets.{every}
 use Rattle.automata.specs.declared.Fault.{Fault}
 use Rattle.automata.specs.declared.Fault.TheVariants.{TooDeep}
 use Rattle.tokens.specs.declared.Mark.{Mark as Sign}
-use Rattle.tokens.specs.Streams.{Stream, ahead, begins, past}
+use Rattle.tokens.specs.declared.Mark.TheVariants.{CloseParen}
+use Rattle.tokens.specs.Streams.{Stream, ahead, begins, past, expected}
 use Rattle.tokens.proofs.Ahead.{past_same}
 use Rattle.conditions.specs.declared.Operand.TheVariants.{Set, Not, Group}
-use Rattle.conditions.specs.Outcomes.{Out, bind, chain}
+use Rattle.conditions.specs.Outcomes.{Out, bind, chain, Eats}
 use Rattle.conditions.specs.Operands.{operand_of}
-use Rattle.conditions.specs.Conditions.{cond_of, close_group, factor_at, Told}
-use Rattle.conditions.proofs.Chains.{Eats, past_less, chain_go, chain_stop}
+use Rattle.conditions.specs.Conditions.{cond_of, cond_at, close_group, factor_at, Told}
+use Rattle.conditions.proofs.Chains.{past_less, chain_go, chain_stop}
 
 -- parts joined by a mark
 module _ {A : Type 0} (m : Sign) (part : A → Stream → Out A) (eats : (x : A) → Eats (part x)) where
@@ -70,6 +71,26 @@ module _ (d : ℕ) (s : Stream) where
   pub factor_group : (p : ℕ) (q : Stream) → operand_of s ≡ Ok (Group p, q) → (b : ℕ) → d ≡ b + 1 → factor_at d s ≡ bind (cond_of (factor_at b) q) close_group
   unfolding factor_at
   factor_group p q e b z = ap (λ (n : ℕ). factor_at n s) (z ∙ add-one b) ∙ going (operand_of s) _ (Group p) q e
+
+  -- a factor after `!`, and a condition in brackets, with a level less
+  module _ (p : ℕ) (q : Stream) (b : ℕ) (z : d ≡ b + 1) where
+    pub not_fails : (f : Fault) → operand_of s ≡ Ok (Not p, q) → factor_at b q ≡ Err f → factor_at d s ≡ Err f
+    not_fails f o e = factor_not p q o b z ∙ without (factor_at b q) _ f e
+
+    pub not_is : (x : ℕ) (r : Stream) → operand_of s ≡ Ok (Not p, q) → factor_at b q ≡ Ok (x, r) → factor_at d s ≡ Ok (every - x, r)
+    not_is x r o e = factor_not p q o b z ∙ going (factor_at b q) _ x r e
+
+    pub group_fails : (f : Fault) → operand_of s ≡ Ok (Group p, q) → cond_at b q ≡ Err f → factor_at d s ≡ Err f
+    group_fails f o e = factor_group p q o b z ∙ without (cond_at b q) _ f e
+
+    pub group_open : (x : ℕ) (r : Stream) (f : Fault) → operand_of s ≡ Ok (Group p, q) → cond_at b q ≡ Ok (x, r) → expected CloseParen r ≡ Err f → factor_at d s ≡ Err f
+    group_open x r f o e h = factor_group p q o b z ∙ going (cond_at b q) close_group x r e ∙ without (expected CloseParen r) _ f h
+
+    pub group_is : (x : ℕ) (r : Stream) (k : ℕ) (t : Stream) → operand_of s ≡ Ok (Group p, q) → cond_at b q ≡ Ok (x, r) → expected CloseParen r ≡ Ok (k, t) → factor_at d s ≡ Ok (x, t)
+    group_is x r k t o e h = factor_group p q o b z ∙ going (cond_at b q) close_group x r e ∙ going (expected CloseParen r) _ k t h
+
+-- each way through a factor
+pub ruleset factors = (factor_fails, factor_set, factor_deep_not, factor_deep_group, not_fails, not_is, group_fails, group_open, group_is)
 
 -- the answer of a call that failed
 pub told_err : (o : Out ℕ) (r : Result AtomSet Fault) (rest : Stream) (f : Fault) → r ≡ Err f → o ≡ Err f → Told o r rest

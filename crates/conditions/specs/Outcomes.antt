@@ -1,5 +1,5 @@
 -- What a part of a text comes to: a value and the tokens that follow it, or a fault.
-use Rattle.std.specs.Prelude.{ℕ, zero, suc, cond, Ok, Err, Result}
+use Rattle.std.specs.Prelude.{◌≡◌, ◌≤◌, ℕ, zero, suc, cond, Ok, Err, Result}
 use Rattle.automata.specs.declared.Fault.{Fault}
 use Rattle.tokens.specs.declared.Mark.{Mark}
 use Rattle.tokens.specs.Streams.{Stream, ahead, begins, past}
@@ -21,3 +21,7 @@ more m part (suc n) x s = cond (begins m s) (bind (part x (past m s)) (more m pa
 -- as long as the mark comes next, one more part; there are no more than tokens
 unfoldable pub chain : {A : Type 0} → Mark → (A → Stream → Out A) → A → Stream → Out A
 chain m part x s = more m part (ahead s) x s
+
+-- a part takes its tokens from the front
+abbrev pub Eats : {A : Type 0} → (Stream → Out A) → Type 0
+Eats {A} f = (s : Stream) (x : A) (q : Stream) → f s ≡ Ok (x, q) → ahead q ≤ ahead s

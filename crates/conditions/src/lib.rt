@@ -1,11 +1,12 @@
 // Conditions: the sets of atoms that they stand for.
 #![tactic(auto)]
 
-ghost use Rattle.std.specs.Prelude.{◌≡◌, ◌+◌, Ok, Err};
+ghost use Rattle.std.specs.Prelude.{◌≡◌, ℕ, ◌≤◌, ◌+◌, Ok, Err};
 ghost use Rattle.automata.specs.declared.Fault.TheVariants.{TooDeep};
-ghost use Rattle.tokens.specs.Streams.{left};
+ghost use Rattle.tokens.specs.Streams.{Stream, left, ahead};
 ghost use Rattle.conditions.specs.Operands.{operand_of};
-ghost use Rattle.conditions.specs.Conditions.{Told, factor_at, term_of, cond_at};
+ghost use Rattle.conditions.specs.Outcomes.{Out, Eats};
+ghost use Rattle.conditions.specs.Conditions.{Told, Reads, Shortens, Joins, joined_of, factor_at, term_of, cond_at};
 
 use atoms::AtomSet;
 use automata::Fault;
@@ -25,23 +26,21 @@ fn first_operand(reader: &mut Reader) -> Result<Operand, Fault>
     ensures { elim result [ Ok x ↦ operand_of (left reader.old) ≡ Ok (x, left reader.new) | Err f ↦ operand_of (left reader.old) ≡ Err f ] }
 {
     match reader.next()? {
-        Token::Word { place, word, .. } => match word {
-            Word::Test(test) => Ok(Operand::Set(test.set())),
-            Word::Verb(_) => Err(Fault::Unexpected(place)),
-            Word::If | Word::Else | Word::While => Err(Fault::Unexpected(place)),
-            Word::Skip | Word::Stop | Word::By | Word::P => Err(Fault::Unexpected(place)),
-        },
-        Token::Number { place, value } => match value {
-            0 => Ok(Operand::Set(AtomSet::empty())),
-            1 => Ok(Operand::Set(AtomSet::all())),
-            _ => Err(Fault::Unexpected(place)),
-        },
-        Token::Mark { place, mark } => match mark {
-            Mark::Not => Ok(Operand::Not(place)),
-            Mark::OpenParen => Ok(Operand::Group(place)),
-            _ => Err(Fault::Unexpected(place)),
-        },
-        Token::End { place } => Err(Fault::Unexpected(place)),
+        Token::Word {
+            word: Word::Test(test),
+            ..
+        } => Ok(Operand::Set(test.set())),
+        Token::Number { value: 0, .. } => Ok(Operand::Set(AtomSet::empty())),
+        Token::Number { value: 1, .. } => Ok(Operand::Set(AtomSet::all())),
+        Token::Mark {
+            place,
+            mark: Mark::Not,
+        } => Ok(Operand::Not(place)),
+        Token::Mark {
+            place,
+            mark: Mark::OpenParen,
+        } => Ok(Operand::Group(place)),
+        other => Err(Fault::Unexpected(other.place())),
     }
 }
 
@@ -49,22 +48,42 @@ fn first_operand(reader: &mut Reader) -> Result<Operand, Fault>
 pub fn open_level(levels: u8, place: usize) -> Result<u8, Fault>
     ensures { elim result [ Ok d ↦ levels ≡ d + 1 | Err f ↦ (levels ≡ 0) × (f ≡ TooDeep place) ] }
 {
-    if levels == 0 {
-        return Err(Fault::TooDeep(place));
-    }
-    Ok(levels - 1)
+    levels.checked_sub(1).ok_or(Fault::TooDeep(place))
 }
 
-// The set of atoms of a condition: terms joined by `|`.
+// Parts with the mark between them: their sets joined from the left.
+fn joined<'a, P: Fn(&mut Reader<'a>) -> Result<AtomSet, Fault>, J: Fn(AtomSet, AtomSet) -> AtomSet>(
+    reader: &mut Reader<'a>,
+    mark: Mark,
+    part: P,
+    join: J,
+) -> Result<AtomSet, Fault>
+    requires part { P.IsAlwaysCallable part }
+    requires join { J.IsAlwaysCallable join }
+    requires shortens { Shortens (P.post part) }
+    ensures { (p : Stream → Out ℕ) (op : ℕ → ℕ → ℕ) → Eats p → Reads (P.post part) p → Joins (J.post join) op → Told (joined_of mark p op (left reader.old)) result (left reader.new) }
+{
+    let mut set = part(reader)?;
+    while reader.accept(mark) {
+        set = join(set, part(reader)?);
+    }
+    Ok(set)
+}
+
+// The set of atoms of a condition: terms joined by `|`. Reader and levels are no struct of their own: the reader goes on through all
+// parts, and the levels fall within brackets alone.
 #[cycle(cond_factor_term)]
 pub fn cond(reader: &mut Reader, levels: u8) -> Result<AtomSet, Fault>
     ensures { Told (cond_at levels (left reader.old)) result (left reader.new) }
 {
-    let mut set = term(reader, levels)?;
-    while reader.accept(Mark::Or) {
-        set = set.union(term(reader, levels)?);
-    }
-    Ok(set)
+    joined(
+        reader,
+        Mark::Or,
+        |r|
+            ensures { Told (term_of (factor_at levels) (left r.old)) result (left r.new) }
+        { term(r, levels) },
+        AtomSet::union,
+    )
 }
 
 // The set of atoms of a term: factors joined by `&`.
@@ -72,15 +91,19 @@ pub fn cond(reader: &mut Reader, levels: u8) -> Result<AtomSet, Fault>
 fn term(reader: &mut Reader, levels: u8) -> Result<AtomSet, Fault>
     ensures { Told (term_of (factor_at levels) (left reader.old)) result (left reader.new) }
 {
-    let mut set = factor(reader, levels)?;
-    while reader.accept(Mark::And) {
-        set = set.intersection(factor(reader, levels)?);
-    }
-    Ok(set)
+    joined(
+        reader,
+        Mark::And,
+        |r|
+            ensures { Told (factor_at levels (left r.old)) result (left r.new) }
+        { factor(r, levels) },
+        AtomSet::intersection,
+    )
 }
 
 // The set of atoms of a factor.
 #[cycle(cond_factor_term)]
+#[tactic(auto, using(crate::proofs::Conds::factors))]
 fn factor(reader: &mut Reader, levels: u8) -> Result<AtomSet, Fault>
     ensures { Told (factor_at levels (left reader.old)) result (left reader.new) }
 {

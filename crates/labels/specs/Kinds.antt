@@ -1,7 +1,8 @@
 -- Orders, and the two kinds of label: what each means, its bytes, and which labels are the same.
-use Rattle.std.specs.Prelude.{ℕ, ◌-◌, ◌<◌, Bool, true, false, cond, ◌&&◌, List, [], ◌∷◌, ℤ, pos, negsuc, ◌+ℤ◌, ◌*ℤ◌, Some, None, Option, ◌==◌, nat_lt, slice_index}
+use Rattle.std.specs.Prelude.{◌≡◌, ℕ, ◌-◌, ◌<◌, Bool, true, false, cond, ◌&&◌, List, [], ◌∷◌, ℤ, pos, negsuc, ◌+ℤ◌, ◌*ℤ◌, Some, None, codes, Ok, Err, Option, Result, ◌==◌, nat_lt, slice_index}
 use Rattle.std.proofs.Common.{arith}
 use Rattle.std.specs.Int.Signed.{mag}
+use Rattle.std.specs.Str.{bytes_eq}
 use Rattle.std.proofs.lemmas.Bool.{cond_both, ltb-true, ltb-false}
 use Rattle.automata.specs.declared.Label.{Ghosts as LabelGhosts}
 use Rattle.labels.specs.declared.Verb.{Verb}
@@ -98,6 +99,15 @@ said_measured x = record { verb = x.verb; picas = x.picas; points = x.points }
 abbrev pub kind_number : Kind → ℕ
 kind_number kinds.Bare = 1
 kind_number kinds.Measured = 2
+
+-- the kind that a word numbers, by one digit, if it does
+abbrev pub kind_named : List ℕ → Option Kind
+kind_named w = cond (bytes_eq w (codes "1")) (Some kinds.Bare) (cond (bytes_eq w (codes "2")) (Some kinds.Measured) None)
+
+-- the kind that a word numbers, or none
+abbrev pub KindNamed : {E : Type 0} → List ℕ → Result Kind E → Type 0
+KindNamed w (Ok k) = kind_named w ≡ Some k
+KindNamed w (Err e) = kind_named w ≡ None
 
 -- whether a label of the kind has a measure
 abbrev pub has_measure : Kind → Bool

@@ -1,6 +1,7 @@
 -- The twelve verbs: the byte of each, and its name.
-use Rattle.std.specs.Prelude.{ℕ, cond, List, Some, None, codes, Option, ◌==◌}
+use Rattle.std.specs.Prelude.{◌≡◌, ℕ, cond, List, Some, None, codes, Ok, Err, Option, Result, ◌==◌}
 use Rattle.labels.specs.declared.Verb.{Verb}
+use Rattle.labels.specs.declared.UnknownVerb.{UnknownVerb}
 use Rattle.labels.specs.declared.Verb.TheVariants.{Line, Page, Column, Float, Foot, Feather, Tight, Loose, Hyphen, Rule, Blank, Run}
 
 -- the byte of a verb
@@ -24,6 +25,11 @@ verb_of b =
     cond (b == 1) (Some Line) (cond (b == 2) (Some Page) (cond (b == 3) (Some Column) (cond (b == 4) (Some Float)
     (cond (b == 5) (Some Foot) (cond (b == 6) (Some Feather) (cond (b == 7) (Some Tight) (cond (b == 8) (Some Loose)
     (cond (b == 9) (Some Hyphen) (cond (b == 10) (Some Rule) (cond (b == 11) (Some Blank) (cond (b == 12) (Some Run) None)))))))))))
+
+-- the verb of a byte, or the byte that is no verb's
+abbrev pub VerbOf : ℕ → Result Verb UnknownVerb → Type 0
+VerbOf b (Ok v) = verb_of b ≡ Some v
+VerbOf b (Err e) = (verb_of b ≡ None) × (e.0 ≡ b)
 
 -- the word that a script writes for a verb
 abbrev pub name_of : Verb → List ℕ

@@ -1,14 +1,14 @@
 // Why there is no answer, as the program says it.
-ghost use Rattle.marker.specs.declared.failure.Cause.TheVariants.{Memory, Refused};
-ghost use Rattle.marker.specs.declared.failure.Status.TheVariants.{Failed};
-ghost use Rattle.marker.specs.Wrongs.{failure_of};
 ghost use Rattle.std.specs.Prelude.{◌≡◌, None, Option as Optional};
+ghost use Rattle.marker.specs.declared.failure.Failure.TheVariants.{Memory};
 ghost use Rattle.marker.specs.Spots.{Spotted};
+ghost use Rattle.marker.specs.Wrongs.{failure_of, cause_of};
 
+use answers::Cause as Unanswered;
 use automata::Fault;
 use requests::{Spot, Wrong};
 use std::alloc::AllocError;
-use std::{fmt, io};
+use std::fmt;
 
 // Why a file has no answer.
 #[derive(Clone, Copy)]
@@ -19,19 +19,14 @@ pub enum Cause {
     Memory,
 }
 
-impl From<AllocError> for Cause {
-    ghost from_gives = { λ e r. r ≡ Memory };
+impl From<Unanswered> for Cause {
+    ghost from_gives = { λ u r. r ≡ cause_of u };
 
-    fn from(_error: AllocError) -> Cause {
-        Cause::Memory
-    }
-}
-
-impl From<Fault> for Cause {
-    ghost from_gives = { λ f r. r ≡ Refused f };
-
-    fn from(fault: Fault) -> Cause {
-        Cause::Refused(fault)
+    fn from(unanswered: Unanswered) -> Cause {
+        match unanswered {
+            Unanswered::Refused(fault) => Cause::Refused(fault),
+            Unanswered::Memory => Cause::Memory,
+        }
     }
 }
 
@@ -55,6 +50,14 @@ impl From<Wrong> for Failure {
             Wrong::Usage => Failure::Usage,
             Wrong::Memory => Failure::Memory,
         }
+    }
+}
+
+impl From<AllocError> for Failure {
+    ghost from_gives = { λ e r. r ≡ Memory };
+
+    fn from(_error: AllocError) -> Failure {
+        Failure::Memory
     }
 }
 
@@ -83,56 +86,36 @@ impl Failure {
 fn spot_of(cause: Cause, text: &[u8]) -> Option<Spot>
     ensures { Spotted cause text.now result }
 {
-    let Cause::Refused(fault) = cause else {
-        return None;
-    };
-    match fault.place() {
-        Some(place) => Some(Spot::of(text, place)),
-        None => None,
+    match cause {
+        Cause::Refused(fault) => fault.place().map(|place| Spot::of(text, place)),
+        _ => None,
     }
 }
 
-// What a fault says, in words.
-fn in_words(fault: Fault) -> &'static str {
-    match fault {
-        Fault::ShortBuffer => "buffer below its fixed length",
-        Fault::LongText => "text over 16,384 bytes",
-        Fault::StrayByte(_) => "byte that begins no token",
-        Fault::LargeNumber(_) => "number over 127 or over three digits",
-        Fault::UnknownWord(_) => "word not known",
-        Fault::Unexpected(_) => "token or end of text that the grammar does not allow",
-        Fault::NoMeasure(_) => "`by` with labels that have no measure",
-        Fault::TooDeep(_) => "33rd level",
-        Fault::TooManySteps(_) => "256th step",
-        Fault::VoidMachine => "void machine",
-        Fault::NoSuchState => "state not below the size",
-        Fault::WrongHead(_) => "head field or length wrong",
-        Fault::WrongRow(_) => "row field out of range or label declined",
-        Fault::RowsUnordered(_) => "row's state below the row before",
-        Fault::RowsOverlap(_) => "row shares an atom with an earlier row of its state",
-        Fault::TooManyRows => "more than 2,048 rows to save",
-    }
-}
-
-// Writes a refusal: its number, its layer, place and spot where it has them, and its words.
-fn write_refusal<W: fmt::Write>(
-    f: &mut fmt::Formatter<W>,
+// A refusal, and its spot where it has one.
+#[derive(Clone, Copy)]
+struct Refusal {
     fault: Fault,
     spot: Option<Spot>,
-) -> fmt::Result {
-    let number = fault.number();
-    write!(f, "refused {number}")?;
-    if let Some(layer) = fault.layer() {
-        write!(f, ", layer {layer}")?;
+}
+
+// Its number, its layer, place and spot where it has them, and its words.
+impl fmt::Display for Refusal {
+    fn fmt<W: fmt::Write>(&self, f: &mut fmt::Formatter<W>) -> fmt::Result {
+        let Refusal { fault, spot } = *self;
+        let number = fault.number();
+        write!(f, "refused {number}")?;
+        if let Some(layer) = fault.layer() {
+            write!(f, ", layer {layer}")?;
+        }
+        if let Some(place) = fault.place() {
+            write!(f, ", place {place}")?;
+        }
+        if let Some(spot) = spot {
+            write!(f, " ({spot})")?;
+        }
+        write!(f, ": {fault}")
     }
-    if let Some(place) = fault.place() {
-        write!(f, ", place {place}")?;
-    }
-    if let Some(spot) = spot {
-        write!(f, " ({spot})")?;
-    }
-    let words = in_words(fault);
-    write!(f, ": {words}")
 }
 
 impl fmt::Display for Failure {
@@ -148,27 +131,16 @@ impl fmt::Display for Failure {
             Failure::Memory => f.write_str("marker: no memory"),
             Failure::File { name, cause, spot } => {
                 write!(f, "marker: {name}: ")?;
-                match cause {
+                match *cause {
                     Cause::Unreadable => f.write_str("cannot be read"),
                     Cause::Table => f.write_str("tables are not read yet"),
-                    Cause::Refused(fault) => write_refusal(f, *fault, *spot),
+                    Cause::Refused(fault) => {
+                        let refusal = Refusal { fault, spot: *spot };
+                        write!(f, "{refusal}")
+                    }
                     Cause::Memory => f.write_str("no memory"),
                 }
             }
         }
-    }
-}
-
-// How the program ends where it has no answer or cannot print it.
-#[derive(Clone, Copy)]
-pub enum Status {
-    Failed,
-}
-
-impl From<io::Error> for Status {
-    ghost from_gives = { λ e r. r ≡ Failed };
-
-    fn from(_error: io::Error) -> Status {
-        Status::Failed
     }
 }

@@ -3,31 +3,27 @@
 
 ghost use Rattle.std.specs.Prelude.{◌≡◌};
 ghost use Rattle.marker.specs.Answers.{Answered, FileAnswered};
+ghost use Rattle.marker.specs.Replies.{Replied, FileReplied};
 ghost use Rattle.marker.specs.Files.{table_head};
 
-use automata::Machine;
-use labels::{Bare, Kind, Measured};
-use reading::{NODE_RECORDS, read};
-use script::{Node, Script, ScriptMachine};
+use answers::{replay, states};
+use labels::{Bare, Kind, Measured, Spelled};
 use std::alloc::Global;
 use std::process::ExitCode;
-use std::{env, fs};
+use std::{env, fs, io};
 
 mod failure;
-mod spelling;
+mod reply;
 
-use failure::{Cause, Failure, Status};
+use failure::{Cause, Failure};
+use reply::Reply;
 use requests::{Command, Request, parse_request};
-use spelling::{Spelled, replay};
 
 // Whether a file is a table: whether it begins with the letters MUS.
 fn is_table(file: &[u8]) -> bool
     ensures { result ≡ table_head file.now }
 {
-    match file {
-        [b'M', b'U', b'S', ..] => true,
-        _ => false,
-    }
+    file.starts_with(b"MUS")
 }
 
 // What the command answers on the text of a script.
@@ -36,24 +32,20 @@ fn answer<L: Spelled>(
     kind: Kind,
     text: &[u8],
     command: &Command,
-) -> Result<String, Cause>
-    ensures { Answered kind text.now result }
+) -> Result<Reply, Cause>
+    ensures read { Answered kind text.now result }
+    ensures exact { Replied L.Label L.Spelled.said kind text.now command.now result }
 {
-    let mut nodes = vec![in heap; Node::Blank; NODE_RECORDS]?;
-    read(kind, text, &mut nodes[..])?;
-    let machine = ScriptMachine::<Script, L>::of(&nodes[..]);
     match command {
-        Command::Check => {
-            let states = machine.size();
-            Ok(format!(in heap; "script: {states} states")?)
-        }
-        Command::Run(atoms) => Ok(replay(heap, &machine, atoms.as_slice())?),
+        Command::Check => Ok(Reply::Size(states::<L>(heap, kind, text)?)),
+        Command::Run(atoms) => Ok(Reply::Run(replay::<L>(heap, kind, text, 0, atoms.as_slice())?)),
     }
 }
 
 // What the command answers on a file that was read.
-fn answer_file(heap: Global, request: &Request, file: &[u8]) -> Result<String, Cause>
-    ensures { FileAnswered request.now.kind file.now result }
+fn answer_file(heap: Global, request: &Request, file: &[u8]) -> Result<Reply, Cause>
+    ensures read { FileAnswered request.now.kind file.now result }
+    ensures exact { FileReplied request.now file.now result }
 {
     if is_table(file) {
         return Err(Cause::Table);
@@ -65,41 +57,32 @@ fn answer_file(heap: Global, request: &Request, file: &[u8]) -> Result<String, C
 }
 
 // What the program answers, or why there is no answer.
-fn work(rt: &HostRuntime) -> Result<String, Failure> {
+fn work(rt: &HostRuntime) -> Result<Reply, Failure> {
     let heap = rt.alloc();
-    let Ok(args) = env::args(rt) else {
-        return Err(Failure::Usage);
-    };
-    let Ok(words) = args.skip(1).collect::<Vec<String>>(heap) else {
-        return Err(Failure::Memory);
-    };
-    let request = parse_request(heap, words.as_slice())?;
+    let args = env::args(rt).map_err(|_| Failure::Usage)?;
+    let words = args.skip(1).collect::<Vec<String>>(heap)?;
+    let request = parse_request(heap, &words)?;
+    // no `?`, since the failure takes the name that is read
     let Ok(file) = fs::read(rt, request.file.as_str()) else {
         return Err(Failure::unreadable(request.file));
     };
-    match answer_file(heap, &request, file.as_slice()) {
-        Ok(text) => Ok(text),
-        Err(cause) => Err(Failure::of(request.file, cause, file.as_slice())),
-    }
+    answer_file(heap, &request, &file).map_err(|cause| Failure::of(request.file, cause, &file))
 }
 
 // Prints what the program answers, or to standard error why there is no answer.
-fn report(rt: &HostRuntime) -> Result<(), Status> {
+fn report(rt: &HostRuntime) -> io::Result<ExitCode> {
     match work(rt) {
-        Ok(text) => {
-            println!(rt; "{text}")?;
-            Ok(())
+        Ok(reply) => {
+            println!(rt; "{reply}")?;
+            Ok(ExitCode::SUCCESS)
         }
         Err(failure) => {
             eprintln!(rt; "{failure}")?;
-            Err(Status::Failed)
+            Ok(ExitCode::FAILURE)
         }
     }
 }
 
 fn main(rt: HostRuntime) -> ExitCode {
-    match report(&rt) {
-        Ok(()) => ExitCode::SUCCESS,
-        Err(Status::Failed) => ExitCode::FAILURE,
-    }
+    report(&rt).unwrap_or(ExitCode::FAILURE)
 }

@@ -2,5 +2,4 @@ pub mod Stores
 pub mod StepEats
 pub mod Growth
 pub mod Blocks
-pub mod Blanking
 pub mod Wholes

@@ -1,5 +1,5 @@
 -- A whole text: its script, and then its end.
-use Rattle.std.proofs.Common.{◌≡◌, ℕ, List, Some, None, Ok, Err, Result, sym, ap, ◌∙◌, subst}
+use Rattle.std.proofs.Common.{◌≡◌, ℕ, List, take, Some, None, Ok, Err, sym, ap, ◌∙◌}
 use Rattle.automata.specs.declared.Fault.{Fault}
 use Rattle.labels.specs.declared.Kind.{Kind}
 use Rattle.script.specs.declared.node.Node.{Node}
@@ -7,10 +7,11 @@ use Rattle.script.specs.Trees.{Tree}
 use Rattle.tokens.specs.Streams.{Stream, stream_at, expected_end}
 use Rattle.conditions.specs.Outcomes.{Out}
 use Rattle.reading.specs.Steps.{script_at}
-use Rattle.reading.specs.Readings.{most_levels, end_on, whole_on, reading_of, Whole}
+use Rattle.reading.specs.Readings.{most_levels, end_on, whole_on, reading_of}
 
-pub whole_err : (o : Result Tree Fault) (after : List Node) (r : Result ℕ Fault) (f : Fault) → r ≡ Err f → o ≡ Err f → Whole o after r
-whole_err o after r f e h = subst (λ v. Whole o after v) (sym e) h
+-- the front of a list that is the same
+pub taken : (n : ℕ) (x y z : List Node) → x ≡ y → take n y ≡ z → take n x ≡ z
+taken n x y z e h = ap (take n) e ∙ h
 
 module _ (k : Kind) (text x : List ℕ) (at : ℕ) (z : at ≡ 0) (same : x ≡ text) where
   reads : (o : Out Tree) → script_at k most_levels 0 (stream_at x at) ≡ o → reading_of k text ≡ whole_on o

@@ -1,4 +1,5 @@
 pub mod Firsts
 pub mod Steps
 pub mod Drafts
+pub mod Stores
 pub mod Readings

@@ -1,2 +1,3 @@
 mod Requests
 mod Steps
+mod Parts

@@ -1,64 +1,62 @@
--- What the loops over the bytes of a word or a text do at one byte.
-use Rattle.std.proofs.Common.{◌≡◌, ℕ, ◌+◌, ◌-◌, ◌<◌, ◌≤◌, min, Bool, true, false, cond, eqb, List, [], ◌∷◌, ◌++◌, length, get_or, take, drop, Some, Option, sym, ap, ◌∙◌, arith}
-use Rattle.std.proofs.lemmas.List.{at_drop_more, at_drop_all, take_more, get_or-drop, length-drop, same_lists, places}
-use Rattle.requests.specs.Places.{breaks, since}
-use Rattle.requests.specs.Words.{append_digit, digits_on, test_in, joined, tests_on}
+-- The tests of a word, cut at each `+`.
+use Rattle.std.proofs.Common.{◌≡◌, ℕ, ◌+◌, ◌<◌, ◌≤◌, true, false, cond, eqb, List, [], ◌∷◌, ◌++◌, length, get_or, drop, Some, None, Option, sym, refl, ap, ◌∙◌, append-nil, append_assoc, arith}
+use Rattle.std.proofs.lemmas.List.{at_drop_more, at_drop_all}
+use Rattle.std.specs.List.{slice_split, onto_first}
+use Rattle.std.proofs.lemmas.List.Splits.{length-slice_split}
+use Rattle.requests.specs.Words.{test_in, joined, tests_on}
 
-pub breaks_more : (n : ℕ) (xs : List ℕ) (i : ℕ) → i < length xs → breaks n (drop i xs) ≡ breaks (cond (eqb (get_or xs i 0) 10) (n + 1) n) (drop (i + 1) xs)
-breaks_more n xs i h = at_drop_more (breaks n) xs i 0 h
+-- the atom of letters that were cut at each `+`, behind those of which the first argument is the atom
+abbrev pub tests_in : Option ℕ → List (List ℕ) → Option ℕ
+tests_in None parts = None
+tests_in (Some a) [] = Some a
+tests_in (Some a) (w ∷ parts) = tests_in (joined a (test_in w)) parts
 
-pub breaks_all : (n : ℕ) (xs : List ℕ) (i : ℕ) → length xs ≤ i → breaks n (drop i xs) ≡ n
-breaks_all n xs i h = at_drop_all (breaks n) xs i h
+-- the parts of a word between its `+`
+abbrev pub parts_of : List ℕ → List (List ℕ)
+parts_of w = slice_split (λ b. eqb b 43) w
 
-pub since_more : (n : ℕ) (xs : List ℕ) (i : ℕ) → i < length xs → since n (drop i xs) ≡ since (cond (eqb (get_or xs i 0) 10) 0 (n + 1)) (drop (i + 1) xs)
-since_more n xs i h = at_drop_more (since n) xs i 0 h
+-- the parts with more letters before the first
+abbrev fronted : List ℕ → List (List ℕ) → List (List ℕ)
+fronted w [] = w ∷ []
+fronted w (part ∷ parts) = (w ++ part) ∷ parts
 
-pub since_all : (n : ℕ) (xs : List ℕ) (i : ℕ) → length xs ≤ i → since n (drop i xs) ≡ n
-since_all n xs i h = at_drop_all (since n) xs i h
+fronted_none : (parts : List (List ℕ)) → 0 < length parts → fronted [] parts ≡ parts
+fronted_none [] h = absurd (omega arith)
+fronted_none (part ∷ parts) h = refl
 
-pub digits_more : (n : ℕ) (xs : List ℕ) (i : ℕ) (o : Option ℕ) → i < length xs → o ≡ append_digit n (get_or xs i 0) → digits_on (Some n) (drop i xs) ≡ digits_on o (drop (i + 1) xs)
-digits_more n xs i o h e = at_drop_more (digits_on (Some n)) xs i 0 h ∙ ap (λ q. digits_on q (drop (i + 1) xs)) (sym e)
+fronted_one : (w : List ℕ) (b : ℕ) (parts : List (List ℕ)) → 0 < length parts → fronted (w ++ b ∷ []) parts ≡ fronted w (onto_first b parts)
+fronted_one w b [] h = absurd (omega arith)
+fronted_one w b (part ∷ parts) h = ap (λ q. q ∷ parts) (append_assoc w (b ∷ []) part)
 
-pub digits_all : (n : ℕ) (xs : List ℕ) (i : ℕ) → length xs ≤ i → digits_on (Some n) (drop i xs) ≡ Some n
-digits_all n xs i h = at_drop_all (digits_on (Some n)) xs i h
+some_part : (w : List ℕ) → 0 < length (parts_of w)
+some_part w = omega (arith, length-slice_split (λ b. eqb b 43) w)
 
--- the letters between two places
-abbrev pub part : List ℕ → ℕ → ℕ → List ℕ
-part xs s i = take (i - s) (drop s xs)
+none_read : (o : Option ℕ) → tests_in o [] ≡ o
+none_read None = refl
+none_read (Some a) = refl
 
-part_more : (xs : List ℕ) (s i : ℕ) → s ≤ i → i < length xs → part xs s i ++ get_or xs i 0 ∷ [] ≡ part xs s (i + 1)
-part_more xs s i le lt =
-    let l : length (drop s xs) ≡ length xs - s = length-drop s xs in
-    let h : i - s < length (drop s xs) = omega (arith, l) in
-    let e : s + (i - s) ≡ i = omega arith in
-    let f : i - s + 1 ≡ i + 1 - s = omega arith in
-    ap (λ x. take (i - s) (drop s xs) ++ x ∷ []) (sym (get_or-drop s xs (i - s) 0 ∙ ap (λ k. get_or xs k 0) e))
-    ∙ sym (take_more (drop s xs) (i - s) 0 h) ∙ ap (λ k. take k (drop s xs)) f
+-- cutting the word first gives the same atom as reading it letter by letter
+tests_cut : (o : Option ℕ) (w rest : List ℕ) → tests_on o w rest ≡ tests_in o (fronted w (parts_of rest))
+tests_cut None w rest = refl
+tests_cut (Some a) w [] = ap (λ q. joined a (test_in q)) (sym (append-nil w)) ∙ sym (none_read (joined a (test_in (w ++ []))))
+tests_cut (Some a) w (b ∷ rest) =
+    elim (eqb b 43) as (λ v. cond v (tests_on (joined a (test_in w)) [] rest) (tests_on (Some a) (w ++ b ∷ []) rest) ≡ tests_in (Some a) (fronted w (cond v ([] ∷ parts_of rest) (onto_first b (parts_of rest))))) [
+      | true ↦
+          tests_cut (joined a (test_in w)) [] rest
+          ∙ ap (tests_in (joined a (test_in w))) (fronted_none (parts_of rest) (some_part rest))
+          ∙ ap (λ q. tests_in (joined a (test_in q)) (parts_of rest)) (sym (append-nil w))
+      | false ↦ tests_cut (Some a) (w ++ b ∷ []) rest ∙ ap (tests_in (Some a)) (fronted_one w b (parts_of rest) (some_part rest))
+    ]
 
-pub letter_more : (a : ℕ) (xs : List ℕ) (s i : ℕ) → s ≤ i → i < length xs → eqb (get_or xs i 0) 43 ≡ false → tests_on (Some a) (part xs s i) (drop i xs) ≡ tests_on (Some a) (part xs s (i + 1)) (drop (i + 1) xs)
-letter_more a xs s i le lt no' =
-    at_drop_more (tests_on (Some a) (part xs s i)) xs i 0 lt
-    ∙ ap (λ b. cond b (tests_on (joined a (test_in (part xs s i))) [] (drop (i + 1) xs)) (tests_on (Some a) (part xs s i ++ get_or xs i 0 ∷ []) (drop (i + 1) xs))) no'
-    ∙ ap (λ p. tests_on (Some a) p (drop (i + 1) xs)) (part_more xs s i le lt)
+pub tests_of_parts : (w : List ℕ) → tests_on (Some 0) [] w ≡ tests_in (Some 0) (parts_of w)
+tests_of_parts w = tests_cut (Some 0) [] w ∙ ap (tests_in (Some 0)) (fronted_none (parts_of w) (some_part w))
 
-pub plus_more : (a : ℕ) (xs : List ℕ) (s i : ℕ) (o : Option ℕ) → i < length xs → eqb (get_or xs i 0) 43 ≡ true → o ≡ joined a (test_in (part xs s i)) → tests_on (Some a) (part xs s i) (drop i xs) ≡ tests_on o (part xs (i + 1) (i + 1)) (drop (i + 1) xs)
-plus_more a xs s i o lt yes' e =
-    let z : 0 ≡ i + 1 - (i + 1) = omega arith in
-    at_drop_more (tests_on (Some a) (part xs s i)) xs i 0 lt
-    ∙ ap (λ b. cond b (tests_on (joined a (test_in (part xs s i))) [] (drop (i + 1) xs)) (tests_on (Some a) (part xs s i ++ get_or xs i 0 ∷ []) (drop (i + 1) xs))) yes'
-    ∙ ap (λ q. tests_on q [] (drop (i + 1) xs)) (sym e)
-    ∙ ap (λ k. tests_on o (take k (drop (i + 1) xs)) (drop (i + 1) xs)) z
+-- what is left of the parts once one more is read
+pub part_more : (a : ℕ) (parts : List (List ℕ)) (i : ℕ) (w : List ℕ) (o : Option ℕ) → i < length parts → w ≡ get_or parts i w → o ≡ joined a (test_in w) → tests_in (Some a) (drop i parts) ≡ tests_in o (drop (i + 1) parts)
+part_more a parts i w o lt is e =
+    at_drop_more (tests_in (Some a)) parts i w lt
+    ∙ ap (λ q. tests_in (joined a (test_in q)) (drop (i + 1) parts)) (sym is)
+    ∙ ap (λ q. tests_in q (drop (i + 1) parts)) (sym e)
 
-pub tests_all : (a : ℕ) (xs w : List ℕ) (i : ℕ) → length xs ≤ i → tests_on (Some a) w (drop i xs) ≡ joined a (test_in w)
-tests_all a xs w i h = at_drop_all (tests_on (Some a) w) xs i h
-
-either_le : (b : Bool) (m n k : ℕ) → m ≤ k → n ≤ k → cond b m n ≤ k
-either_le true m n k p q = p
-either_le false m n k p q = q
-
-pub choice_le : (r : ℕ) (b : Bool) (m n k : ℕ) → r ≡ cond b m n → m ≤ k → n ≤ k → r ≤ k
-choice_le r b m n k e p q = let h = either_le b m n k p q in omega (arith, e, h)
-
--- a front that stops at the end of the list
-pub front : (xs : List ℕ) (p m : ℕ) → m ≡ min p (length xs) → take (m - 0) xs ≡ take p xs
-front xs p m e = same_lists _ _ (grind (arith, places)) (λ k d h. grind (arith, places))
+pub part_all : (a : ℕ) (parts : List (List ℕ)) (i : ℕ) → length parts ≤ i → tests_in (Some a) (drop i parts) ≡ Some a
+part_all a parts i le = at_drop_all (tests_in (Some a)) parts i le

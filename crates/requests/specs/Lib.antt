@@ -1,3 +1,4 @@
 pub mod Places
 pub mod Words
 pub mod Requests
+pub mod Names

@@ -7,7 +7,8 @@ use Rattle.labels.specs.declared.Kind.TheVariants.{Measured}
 use Rattle.requests.specs.declared.request.Command.{Command}
 use Rattle.requests.specs.declared.request.Command.TheVariants.{Check, Run}
 use Rattle.requests.specs.declared.request.Request.{Request}
-use Rattle.requests.specs.Words.{kind_named, word_atom}
+use Rattle.labels.specs.Kinds.{kind_named}
+use Rattle.requests.specs.Words.{word_atom}
 
 -- the words begin with `--kind` and the number of this kind, or no kind is taken from them; the rest stands behind
 abbrev pub Kinded : List (String Global) → Option Kind → List (String Global) → Type 0

@@ -1,17 +1,11 @@
--- What the words of a command line write: kinds and atoms.
+-- What the words of a command line write: atoms.
 use Rattle.std.specs.Prelude.{ℕ, ◌+◌, ◌-◌, ◌*◌, cond, ◌&&◌, List, [], ◌∷◌, ◌++◌, length, Some, None, codes, Option, ◌==◌, nat_le}
 use Rattle.std.specs.Str.{bytes_eq}
 use Rattle.atoms.specs.declared.Test.{Test as GalleyTest}
 use Rattle.atoms.specs.Atoms.{weight_of, holds_at}
-use Rattle.labels.specs.declared.Kind.{Kind}
-use Rattle.labels.specs.declared.Kind.TheVariants.{Bare, Measured}
 use Rattle.words.specs.declared.Word.{Word}
 use Rattle.words.specs.declared.Word.TheVariants.{Test, Verb, If, Else, While, Skip, Stop, By, P}
 use Rattle.words.specs.Words.{word_of}
-
--- the kind of label that a word numbers
-abbrev pub kind_named : List ℕ → Option Kind
-kind_named w = cond (bytes_eq w (codes "1")) (Some Bare) (cond (bytes_eq w (codes "2")) (Some Measured) None)
 
 -- a number with one decimal digit more, up to 255
 abbrev pub append_digit : ℕ → ℕ → Option ℕ

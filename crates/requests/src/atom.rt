@@ -6,16 +6,6 @@ use atoms::{ATOMS, Test};
 use std::fmt;
 use words::{Word, known};
 
-// The tests, in the order in which they are written.
-const TESTS: [Test; 6] = [
-    Test::Widow,
-    Test::Orphan,
-    Test::Head,
-    Test::Figure,
-    Test::Note,
-    Test::Last,
-];
-
 // The test that the letters name, if there is one.
 fn test_of(letters: &[u8]) -> Option<Test>
     ensures { result ≡ test_in letters.now }
@@ -44,29 +34,24 @@ fn tests_of(word: &[u8]) -> Option<u8>
     ensures { result ≡ tests_on (Some 0) [] word.now }
 {
     let mut atom = 0;
-    let mut start = 0;
-    for i in 0..word.len() {
-        if word[i] != b'+' {
-            continue;
-        }
-        atom = with_test(atom, &word[start..i])?;
-        start = i + 1;
+    for letters in word.split(|b| *b == b'+') {
+        atom = with_test(atom, letters)?;
     }
-    with_test(atom, &word[start..word.len()])
+    Some(atom)
 }
 
 // The number with one decimal digit more; none if the byte is no digit, or past 255.
 fn with_digit(number: u8, byte: u8) -> Option<u8>
     ensures { result ≡ append_digit number byte }
 {
-    if byte < b'0' || byte > b'9' {
+    if !byte.is_ascii_digit() {
         return None;
     }
     let more = 10 * u16::from(number) + u16::from(byte - b'0');
-    if more > 255 { None } else { Some(more as u8) }
+    u8::try_from(more).ok()
 }
 
-// The number up to 255 that decimal digits write.
+// The number up to 255 that decimal digits write; not by `parse`, which takes a plus before them.
 fn number_of(word: &[u8]) -> Option<u8>
     ensures { result ≡ number_written word.now }
 {
@@ -87,10 +72,7 @@ pub fn atom_of(word: &[u8]) -> Option<u8>
     if word == b"none".as_slice() {
         return Some(0);
     }
-    match number_of(word) {
-        Some(number) => Some(number),
-        None => tests_of(word),
-    }
+    number_of(word).or_else(|| tests_of(word))
 }
 
 // The tests of an atom.
@@ -107,27 +89,12 @@ impl fmt::Display for Tests {
             return f.write_str("no atom");
         }
         let mut between = "";
-        for test in TESTS {
+        for test in Test::ALL {
             if test.set().contains(atom) {
-                f.write_str(between)?;
-                f.write_str(name(test))?;
+                write!(f, "{between}{test}")?;
                 between = "+";
             }
         }
         Ok(())
-    }
-}
-
-// The word of a test.
-fn name(test: Test) -> &'static str
-    ensures { test_in result.now ≡ Some test }
-{
-    match test {
-        Test::Widow => "widow",
-        Test::Orphan => "orphan",
-        Test::Head => "head",
-        Test::Figure => "figure",
-        Test::Note => "note",
-        Test::Last => "last",
     }
 }

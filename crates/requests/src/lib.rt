@@ -2,9 +2,10 @@
 #![tactic(auto)]
 
 ghost use Rattle.std.specs.Prelude.{◌≡◌};
-ghost use Rattle.requests.specs.declared.Wrong.TheVariants.{Memory};
+ghost use Rattle.requests.specs.declared.Wrong.TheVariants.{Usage, Memory};
 
-use std::alloc::AllocError;
+use labels::UnknownKind;
+use std::alloc::{AllocError, AllocFailed};
 
 mod atom;
 mod request;
@@ -26,5 +27,21 @@ impl From<AllocError> for Wrong {
 
     fn from(_error: AllocError) -> Wrong {
         Wrong::Memory
+    }
+}
+
+impl<T: Drop> From<AllocFailed<T>> for Wrong {
+    ghost from_gives = { λ e r. r ≡ Memory };
+
+    fn from(_error: AllocFailed<T>) -> Wrong {
+        Wrong::Memory
+    }
+}
+
+impl From<UnknownKind> for Wrong {
+    ghost from_gives = { λ e r. r ≡ Usage };
+
+    fn from(_error: UnknownKind) -> Wrong {
+        Wrong::Usage
     }
 }

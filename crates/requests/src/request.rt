@@ -1,6 +1,5 @@
 // What the words of a command line ask for.
-ghost use Rattle.std.specs.Prelude.{◌≡◌, IfOk};
-ghost use Rattle.requests.specs.Words.{kind_named};
+ghost use Rattle.std.specs.Prelude.{IfOk};
 ghost use Rattle.requests.specs.Requests.{Kinded, Atoms, Commanded, Asked};
 
 use crate::Wrong;
@@ -22,32 +21,15 @@ pub struct Request {
     pub file: String,
 }
 
-// The kind of label that a word numbers, if it does.
-fn kind_of(word: &str) -> Option<Kind>
-    ensures { result ≡ kind_named word.now }
-{
-    if word == "1" {
-        Some(Kind::Bare)
-    } else if word == "2" {
-        Some(Kind::Measured)
-    } else {
-        None
-    }
-}
-
 // The kind that the words begin with by `--kind`, if they do, and the words behind it.
 fn kind_option(words: &[String]) -> Result<(Option<Kind>, &[String]), Wrong>
     ensures { IfOk result (λ x. Kinded words.now x.0 x.1.now) }
 {
     match words.split_first() {
         Some((option, rest)) if option.as_str() == "--kind" => {
-            let Some((number, rest)) = rest.split_first() else {
-                return Err(Wrong::Usage);
-            };
-            match kind_of(number.as_str()) {
-                Some(kind) => Ok((Some(kind), rest)),
-                None => Err(Wrong::Usage),
-            }
+            let (number, rest) = rest.split_first().ok_or(Wrong::Usage)?;
+            let kind = number.as_str().parse::<Kind>()?;
+            Ok((Some(kind), rest))
         }
         _ => Ok((None, words)),
     }
@@ -59,12 +41,7 @@ fn atoms_of(heap: Global, words: &[String]) -> Result<Vec<u8>, Wrong>
 {
     let mut atoms = Vec::new(heap);
     for word in words {
-        let Some(atom) = atom_of(word.as_bytes()) else {
-            return Err(Wrong::Usage);
-        };
-        if atoms.push(atom).is_err() {
-            return Err(Wrong::Memory);
-        }
+        atoms.push(atom_of(word.as_bytes()).ok_or(Wrong::Usage)?)?;
     }
     Ok(atoms)
 }
@@ -73,28 +50,23 @@ fn atoms_of(heap: Global, words: &[String]) -> Result<Vec<u8>, Wrong>
 fn command_of(heap: Global, name: &str, words: &[String]) -> Result<Command, Wrong>
     ensures { IfOk result (λ q. Commanded name.now words.now q) }
 {
-    if name == "run" {
-        return Ok(Command::Run(atoms_of(heap, words)?));
+    match name {
+        "run" => Ok(Command::Run(atoms_of(heap, words)?)),
+        "check" if words.is_empty() => Ok(Command::Check),
+        _ => Err(Wrong::Usage),
     }
-    if name == "check" && words.is_empty() {
-        return Ok(Command::Check);
-    }
-    Err(Wrong::Usage)
 }
 
-// What the words ask for; labels are measured where no kind is given.
+// What the words ask for; labels are measured where no kind is given. The heap is passed on to whoever makes a list, and no part of
+// what is asked.
 pub fn parse_request(heap: Global, words: &[String]) -> Result<Request, Wrong>
     ensures { IfOk result (λ q. Asked words.now q) }
 {
     let (before, rest) = kind_option(words)?;
-    let Some((name, rest)) = rest.split_first() else {
-        return Err(Wrong::Usage);
-    };
+    let (name, rest) = rest.split_first().ok_or(Wrong::Usage)?;
     let (after, rest) = kind_option(rest)?;
     let kind = after.or(before).unwrap_or(Kind::Measured);
-    let Some((file, rest)) = rest.split_first() else {
-        return Err(Wrong::Usage);
-    };
+    let (file, rest) = rest.split_first().ok_or(Wrong::Usage)?;
     let command = command_of(heap, name.as_str(), rest)?;
     Ok(Request {
         kind,

@@ -17,7 +17,7 @@ impl Spot {
         ensures lines { result.lines ≡ breaks 0 (take place text.now) }
         ensures bytes { result.bytes ≡ since 0 (take place text.now) }
     {
-        let before = &text[0..place.min(text.len())];
+        let before = &text[..place.min(text.len())];
         let mut spot = Spot { lines: 0, bytes: 0 };
         for b in before {
             spot = spot.past(*b);
@@ -49,6 +49,7 @@ impl Spot {
 // Lines and columns count from 1.
 impl fmt::Display for Spot {
     fn fmt<W: fmt::Write>(&self, f: &mut fmt::Formatter<W>) -> fmt::Result {
+        // no `From` widens a usize
         let line = self.lines as u128 + 1;
         let column = self.bytes as u128 + 1;
         write!(f, "line {line}, column {column}")

@@ -1,9 +1,10 @@
 -- A list of nodes holds a tree exactly when reading the nodes one by one leaves that tree.
-use Rattle.std.proofs.Common.{◌≡◌, ℕ, ◌+◌, ◌≤◌, Bool, true, false, List, [], ◌∷◌, ◌++◌, length, Some, None, Option, sym, refl, ap, ◌∙◌, subst, append_assoc, zero-add, arith, length-append}
+use Rattle.std.proofs.Common.{◌≡◌, ◌+◌, ◌≤◌, Bool, true, false, List, [], ◌∷◌, ◌++◌, length, take, Some, Option, sym, refl, ap, ◌∙◌, append_assoc, arith, length-append}
+use Rattle.std.proofs.Math.Seq.{take-append_seam}
 use Rattle.script.specs.declared.node.Node.{Node}
 use Rattle.script.specs.declared.node.Node.TheVariants.{Blank, Order, Test, Sequence, If, When, While}
 use Rattle.script.specs.Trees.{Tree, ordered, tested, joined, branched, guarded, looped}
-use Rattle.script.specs.Lists.{code, all_blank, Holds, one, two, alone, when_blank, going_on, parsed, used, node_at, Placed}
+use Rattle.script.specs.Lists.{code, all_blank, Holds, one, two, alone, when_blank, going_on, parsed, used}
 
 -- reading a tree's nodes leaves the tree
 pub parsed_code : (t : Tree) (ns : List Node) (st : List Tree) → parsed (code t ++ ns) st ≡ parsed ns (t ∷ st)
@@ -28,12 +29,12 @@ parsed_code (looped s l) ns st =
 blanks_parsed : (ns : List Node) (t : Tree) → all_blank ns ≡ true → parsed ns (t ∷ []) ≡ Some t
 blanks_parsed [] t h = refl
 blanks_parsed (Blank ∷ ns) t h = ap (λ (b : Bool). when_blank b (Some t)) h
-blanks_parsed (Order o ∷ ns) t h = absurd (let z : ◌≡◌ {A = ℕ} 0 1 = cc in omega arith)
-blanks_parsed (Test s ∷ ns) t h = absurd (let z : ◌≡◌ {A = ℕ} 0 1 = cc in omega arith)
-blanks_parsed (Sequence ∷ ns) t h = absurd (let z : ◌≡◌ {A = ℕ} 0 1 = cc in omega arith)
-blanks_parsed (If s ∷ ns) t h = absurd (let z : ◌≡◌ {A = ℕ} 0 1 = cc in omega arith)
-blanks_parsed (When s ∷ ns) t h = absurd (let z : ◌≡◌ {A = ℕ} 0 1 = cc in omega arith)
-blanks_parsed (While s ∷ ns) t h = absurd (let z : ◌≡◌ {A = ℕ} 0 1 = cc in omega arith)
+blanks_parsed (Order o ∷ ns) t h = absurd (cc)
+blanks_parsed (Test s ∷ ns) t h = absurd (cc)
+blanks_parsed (Sequence ∷ ns) t h = absurd (cc)
+blanks_parsed (If s ∷ ns) t h = absurd (cc)
+blanks_parsed (When s ∷ ns) t h = absurd (cc)
+blanks_parsed (While s ∷ ns) t h = absurd (cc)
 
 pub holds_parsed : (ns : List Node) (t : Tree) → Holds ns t → parsed ns [] ≡ Some t
 holds_parsed ns t h = ap (λ (xs : List Node). parsed xs []) h.nodes ∙ parsed_code t h.rest [] ∙ blanks_parsed h.rest t h.blanks
@@ -48,24 +49,21 @@ record Left (ns : List Node) (st : List Tree) (t : Tree) : Type 0 where
   nodes : codes st ++ ns ≡ code t ++ rest
   blanks : all_blank rest ≡ true
 
-none_some : {t : Tree} → ◌≡◌ {A = Option Tree} None (Some t) → ⊥
-none_some e = let z : ◌≡◌ {A = ℕ} 0 1 = cc in omega arith
-
 alone_left : (ns : List Node) (st : List Tree) (t : Tree) → all_blank ns ≡ true → alone st ≡ Some t → Left ns st t
-alone_left ns [] t b h = absurd (none_some h)
+alone_left ns [] t b h = absurd (cc)
 alone_left ns (u ∷ []) t b h = let s : u ≡ t = cc in record { rest = ns; nodes = ap (λ (x : Tree). code x ++ ns) s; blanks = b }
-alone_left ns (u ∷ v ∷ st) t b h = absurd (none_some h)
+alone_left ns (u ∷ v ∷ st) t b h = absurd (cc)
 
 pub when_some : (b : Bool) (o : Option Tree) (t : Tree) → when_blank b o ≡ Some t → (b ≡ true) × (o ≡ Some t)
 when_some true o t h = (refl, h)
-when_some false o t h = absurd (none_some h)
+when_some false o t h = absurd (cc)
 
 -- a node that joins the two nearest trees, or takes the nearest
 module _ (n : Node) (ns : List Node) (t : Tree) where
   join_two : (f : Tree → Tree → Tree) → ((l r : Tree) → code (f l r) ≡ code l ++ (code r ++ (n ∷ []))) → (st : List Tree)
       → ((st : List Tree) → parsed ns st ≡ Some t → Left ns st t) → going_on (parsed ns) (two f st) ≡ Some t → Left (n ∷ ns) st t
-  join_two f cf [] ih h = absurd (none_some h)
-  join_two f cf (r ∷ []) ih h = absurd (none_some h)
+  join_two f cf [] ih h = absurd (cc)
+  join_two f cf (r ∷ []) ih h = absurd (cc)
   join_two f cf (r ∷ l ∷ st) ih h =
       let d = ih (f l r ∷ st) h in
       record {
@@ -83,7 +81,7 @@ module _ (n : Node) (ns : List Node) (t : Tree) where
 
   join_one : (f : Tree → Tree) → ((l : Tree) → code (f l) ≡ code l ++ (n ∷ [])) → (st : List Tree)
       → ((st : List Tree) → parsed ns st ≡ Some t → Left ns st t) → going_on (parsed ns) (one f st) ≡ Some t → Left (n ∷ ns) st t
-  join_one f cf [] ih h = absurd (none_some h)
+  join_one f cf [] ih h = absurd (cc)
   join_one f cf (l ∷ st) ih h =
       let d = ih (f l ∷ st) h in
       record {
@@ -121,57 +119,6 @@ left (While s ∷ ns) st t h = join_one (While s) ns t (looped s.bits) (λ l. re
 pub parsed_holds : (ns : List Node) (t : Tree) → parsed ns [] ≡ Some t → Holds ns t
 parsed_holds ns t h = let d = left ns [] t h in record { rest = d.rest; nodes = d.nodes; blanks = d.blanks }
 
--- what stands at a place behind a front
-at_front : (pre post : List Node) (n : Node) → node_at (pre ++ (n ∷ post)) (length pre) ≡ n
-at_front [] post n = refl
-at_front (m ∷ pre) post n = at_front pre post n
-
-at_place : (ns pre post : List Node) (n : Node) (k : ℕ) → ns ≡ pre ++ (n ∷ post) → k ≡ length pre → node_at ns k ≡ n
-at_place ns pre post n k e l = (λ j. node_at (e j) (l j)) ∙ at_front pre post n
-
--- two trees and a node behind a front
-pair : (t l r : Tree) (n : Node) → code t ≡ code l ++ (code r ++ (n ∷ [])) → (ns pre post : List Node) → ns ≡ pre ++ (code t ++ post)
-    → ((pre post : List Node) → ns ≡ pre ++ (code l ++ post) → Placed ns (length pre) l (length pre + length (code l)))
-    → ((pre post : List Node) → ns ≡ pre ++ (code r ++ post) → Placed ns (length pre) r (length pre + length (code r)))
-    → (m : ℕ) × (k : ℕ) × (length pre + length (code t) ≡ k + 1) × Placed ns (length pre) l m × Placed ns m r k × (node_at ns k ≡ n)
-pair t l r n ct ns pre post e pl pr =
-    let e1 : ns ≡ pre ++ (code l ++ (code r ++ (n ∷ post))) =
-    e ∙ ap (λ (xs : List Node). pre ++ (xs ++ post)) ct ∙ ap (λ (xs : List Node). pre ++ xs) (append_assoc (code l) (code r ++ (n ∷ [])) post ∙ ap (λ (xs : List Node). code l ++ xs) (append_assoc (code r) (n ∷ []) post)) in
-    let e2 : ns ≡ (pre ++ code l) ++ (code r ++ (n ∷ post)) = e1 ∙ sym (append_assoc pre (code l) (code r ++ (n ∷ post))) in
-    let e3 : ns ≡ ((pre ++ code l) ++ code r) ++ (n ∷ post) = e2 ∙ sym (append_assoc (pre ++ code l) (code r) (n ∷ post)) in
-    let a = length-append pre (code l) in
-    let b = length-append (pre ++ code l) (code r) in
-    let c = ap length ct ∙ length-append (code l) (code r ++ (n ∷ [])) in
-    let d = length-append (code r) (n ∷ []) in (
-      length (pre ++ code l),
-      length (pre ++ code l) + length (code r),
-      omega arith,
-      subst (λ (x : ℕ). Placed ns (length pre) l x) (sym a) (pl pre (code r ++ (n ∷ post)) e1),
-      pr (pre ++ code l) (n ∷ post) e2,
-      at_place ns ((pre ++ code l) ++ code r) post n (length (pre ++ code l) + length (code r)) e3 (sym b),
-    )
-
--- one tree and a node behind a front
-single : (t l : Tree) (n : Node) → code t ≡ code l ++ (n ∷ []) → (ns pre post : List Node) → ns ≡ pre ++ (code t ++ post)
-    → ((pre post : List Node) → ns ≡ pre ++ (code l ++ post) → Placed ns (length pre) l (length pre + length (code l)))
-    → (k : ℕ) × (length pre + length (code t) ≡ k + 1) × Placed ns (length pre) l k × (node_at ns k ≡ n)
-single t l n ct ns pre post e pl =
-    let e1 : ns ≡ pre ++ (code l ++ (n ∷ post)) =
-    e ∙ ap (λ (xs : List Node). pre ++ (xs ++ post)) ct ∙ ap (λ (xs : List Node). pre ++ xs) (append_assoc (code l) (n ∷ []) post) in
-    let e2 : ns ≡ (pre ++ code l) ++ (n ∷ post) = e1 ∙ sym (append_assoc pre (code l) (n ∷ post)) in
-    let a = length-append pre (code l) in
-    let c = ap length ct ∙ length-append (code l) (n ∷ []) in
-    (length pre + length (code l), omega arith, pl pre (n ∷ post) e1, at_place ns (pre ++ code l) post n (length pre + length (code l)) e2 (sym a))
-
--- a tree's nodes behind a front are placed there
-pub placed : (t : Tree) (ns pre post : List Node) → ns ≡ pre ++ (code t ++ post) → Placed ns (length pre) t (length pre + length (code t))
-placed (ordered o) ns pre post e = (refl, at_place ns pre post (Order o) (length pre) e refl)
-placed (tested s) ns pre post e = (refl, at_place ns pre post (Test (record { bits = s })) (length pre) e refl)
-placed (joined l r) ns pre post e = pair (joined l r) l r Sequence refl ns pre post e (placed l ns) (placed r ns)
-placed (branched s l r) ns pre post e = pair (branched s l r) l r (If (record { bits = s })) refl ns pre post e (placed l ns) (placed r ns)
-placed (guarded s l) ns pre post e = single (guarded s l) l (When (record { bits = s })) refl ns pre post e (placed l ns)
-placed (looped s l) ns pre post e = single (looped s l) l (While (record { bits = s })) refl ns pre post e (placed l ns)
-
 used_two : (t l r : Tree) (n : Node) → code t ≡ code l ++ (code r ++ (n ∷ [])) → (ns : List Node) → used (n ∷ ns) ≡ 1 + used ns
     → ((xs : List Node) → used (code l ++ xs) ≡ length (code l) + used xs) → ((xs : List Node) → used (code r ++ xs) ≡ length (code r) + used xs)
     → used (code t ++ ns) ≡ length (code t) + used ns
@@ -203,24 +150,23 @@ used_code (looped s l) ns = used_one (looped s l) l (While (record { bits = s })
 used_blank : (ns : List Node) → all_blank ns ≡ true → used ns ≡ 0
 used_blank [] h = refl
 used_blank (Blank ∷ ns) h = refl
-used_blank (Order o ∷ ns) h = absurd (let z : ◌≡◌ {A = ℕ} 0 1 = cc in omega arith)
-used_blank (Test s ∷ ns) h = absurd (let z : ◌≡◌ {A = ℕ} 0 1 = cc in omega arith)
-used_blank (Sequence ∷ ns) h = absurd (let z : ◌≡◌ {A = ℕ} 0 1 = cc in omega arith)
-used_blank (If s ∷ ns) h = absurd (let z : ◌≡◌ {A = ℕ} 0 1 = cc in omega arith)
-used_blank (When s ∷ ns) h = absurd (let z : ◌≡◌ {A = ℕ} 0 1 = cc in omega arith)
-used_blank (While s ∷ ns) h = absurd (let z : ◌≡◌ {A = ℕ} 0 1 = cc in omega arith)
+used_blank (Order o ∷ ns) h = absurd (cc)
+used_blank (Test s ∷ ns) h = absurd (cc)
+used_blank (Sequence ∷ ns) h = absurd (cc)
+used_blank (If s ∷ ns) h = absurd (cc)
+used_blank (When s ∷ ns) h = absurd (cc)
+used_blank (While s ∷ ns) h = absurd (cc)
 
--- the used nodes of a list that holds a tree are the tree's
+-- a list that holds a tree has as many used nodes as the tree has nodes
 pub holds_used : (ns : List Node) (t : Tree) → Holds ns t → used ns ≡ length (code t)
 holds_used ns t h =
     let a = ap used h.nodes ∙ used_code t h.rest in
     let b = used_blank h.rest h.blanks in
     omega arith
 
-pub holds_placed : (ns : List Node) (t : Tree) → Holds ns t → Placed ns 0 t (used ns)
-holds_placed ns t h =
-    let e : 0 + length (code t) ≡ used ns = zero-add (length (code t)) ∙ sym (holds_used ns t h) in
-    subst (λ (x : ℕ). Placed ns 0 t x) e (placed t ns [] h.rest h.nodes)
+-- the used nodes of a list that holds a tree are the tree's
+pub holds_front : (ns : List Node) (t : Tree) → Holds ns t → take (used ns) ns ≡ code t
+holds_front ns t h = (λ i. take (holds_used ns t h i) (h.nodes i)) ∙ take-append_seam (code t) h.rest
 
 pub holds_within : (ns : List Node) (t : Tree) → Holds ns t → used ns ≤ length ns
 holds_within ns t h =

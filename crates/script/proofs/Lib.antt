@@ -1,4 +1,3 @@
-pub mod Blanks
 pub mod Parts
 pub mod Says
 pub mod Decode

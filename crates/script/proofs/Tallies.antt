@@ -1,12 +1,16 @@
--- What a node does to the trees before it, in numbers.
-use Rattle.std.proofs.Common.{◌≡◌, ℕ, suc, ◌+◌, ◌-◌, ◌<◌, ◌≤◌, Bool, true, false, cond, not, ◌&&◌, ltb, List, [], ◌∷◌, length, drop, Some, None, Option, sym, refl, ap, ◌∙◌, subst, add-one, arith, drop_of_length-le, drop-cons}
-use Rattle.std.proofs.lemmas.Bool.{le-leb, lt-leb, ltb-true, ltb-false}
+-- What nodes make of the trees before them, in numbers.
+use Rattle.std.proofs.Common.{◌≡◌, ℕ, suc, ◌+◌, ◌-◌, ◌<◌, ◌≤◌, Bool, true, false, cond, not, ◌&&◌, ltb, List, [], ◌∷◌, length, take, drop, Some, None, Option, sym, refl, ap, ◌∙◌, arith}
+use Rattle.std.specs.Option.{option_and_then, unwrap_or}
+use Rattle.std.specs.List.{position}
+use Rattle.std.proofs.lemmas.Bool.{le-leb, lt-leb, ltb-false}
+use Rattle.std.proofs.lemmas.List.Sums.{prefix_len-le-length}
 use Rattle.script.specs.declared.node.Node.{Node}
-use Rattle.script.specs.declared.node.Node.TheVariants.{Blank}
 use Rattle.script.specs.declared.Tally.{Tally}
 use Rattle.script.specs.Trees.{Tree, steps, orders}
-use Rattle.script.specs.Lists.{blank_node, all_blank, one, two, grown, alone, when_blank, going_on, parsed_on, parsed, used, node_at, most_steps, few_steps, script_in}
-use Rattle.script.specs.Tallies.{Grows, Tallied, total_steps, total_orders}
+use Rattle.script.specs.Lists.{blank_node, all_blank, one, two, grown, made, alone, when_blank, going_on, parsed_on, parsed, used, most_steps, few_steps, script_in}
+use Rattle.script.specs.Extents.{extent_on, extent_of}
+use Rattle.script.specs.MachineLaws.{orders_steps}
+use Rattle.script.specs.Tallies.{Numbered, Tallied, total_steps, total_orders}
 
 -- the trees after a node
 abbrev pub Makes : Node → List Tree → ℕ → ℕ → ℕ → Type 0
@@ -38,91 +42,53 @@ module _ (n : Node) (st : List Tree) (h s o : ℕ) (tallied : Tallied st h s o) 
           let a = y.many in let b = y.steps_are in let c = y.orders_are in let v = (cf l r).0 in let w = (cf l r).1 in
           (f l r ∷ xs, g, record { many = omega arith; steps_are = omega arith; orders_are = omega arith })
 
-  pub lack_one : (f : Tree → Tree) → grown n st ≡ one f st → h < 1 → grown n st ≡ None
-  lack_one f g few = go st tallied g
-    where
-      go : (xs : List Tree) → Tallied xs h s o → grown n st ≡ one f xs → grown n st ≡ None
-      go [] y g = g
-      go (l ∷ xs) y g = let a = y.many in absurd (omega arith)
-
-  pub wrap : (f : Tree → Tree) → grown n st ≡ one f st → ((l : Tree) → (steps (f l) ≡ 1 + steps l) × (orders (f l) ≡ orders l))
-      → (r : Option Tally) → r ≡ cond (ltb h 1) None (Some (record { height = h; steps = s + 1; orders = o })) → Grows n st r
-  wrap f g cf r e = by (ltb h 1) refl e
-    where
-      by : (b : Bool) → ltb h 1 ≡ b → r ≡ cond b None (Some (record { height = h; steps = s + 1; orders = o })) → Grows n st r
-      by true few e = subst (Grows n st) (sym e) (lack_one f g (ltb-true h 1 few))
-      by false some e = subst (Grows n st) (sym e) (make_one f g cf (ltb-false h 1 some))
-
-  pub lack_two : (f : Tree → Tree → Tree) → grown n st ≡ two f st → h < 2 → grown n st ≡ None
-  lack_two f g few = go st tallied g
-    where
-      go : (xs : List Tree) → Tallied xs h s o → grown n st ≡ two f xs → grown n st ≡ None
-      go [] y g = g
-      go (r ∷ []) y g = g
-      go (r ∷ l ∷ xs) y g = let a = y.many in absurd (omega arith)
-
--- how far a list of nodes is read: the trees so far, and that what follows decides
-pub record Reached (ns : List Node) (at h s o : ℕ) : Type 0 where
+-- how far a list of nodes is read: the trees so far, and that what follows them decides
+pub record Reached (ns : List Node) (at : ℕ) (y : Tally) : Type 0 where
   pub trees : List Tree
-  pub tallied : Tallied trees h s o
-  pub same : parsed (drop at ns) trees ≡ parsed ns []
-  pub front : at + used (drop at ns) ≡ used ns
-  pub steps_few : s ≤ at
-  pub few_trees : h ≤ at
-  pub few_orders : o ≤ s
+  pub tallied : Tallied trees y.height y.steps y.orders
+  pub same : made (drop at ns) trees ≡ made ns []
+  pub few_trees : y.height ≤ at
+  pub few_steps : y.steps ≤ at
+  pub few_orders : y.orders ≤ y.steps
 
-pub start : (ns : List Node) → Reached ns 0 0 0 0
-start ns = record { trees = []; tallied = record { many = refl; steps_are = refl; orders_are = refl }; same = refl; front = omega arith; steps_few = omega arith; few_trees = omega arith; few_orders = omega arith }
+-- the one tree that the first k nodes of a list leave, if the rest is blank
+abbrev lone_before : List Node → ℕ → List Tree → Option Tree
+lone_before ns k st = when_blank (all_blank (drop k ns)) (alone st)
 
-not_blank : (n : Node) (ns : List Node) → blank_node n ≡ false → used (n ∷ ns) ≡ 1 + used ns
-not_blank n ns b = ap (λ (x : Bool). cond (not x) (1 + used ns) 0) b
+abbrev read_to : List Node → List Tree → ℕ → Option Tree
+read_to ns st k = going_on (lone_before ns k) (made (take k ns) st)
 
-parsed_next : (n : Node) (ns : List Node) (st : List Tree) → blank_node n ≡ false → parsed (n ∷ ns) st ≡ going_on (parsed ns) (grown n st)
-parsed_next n ns st b = ap (λ (x : Bool). parsed_on x (when_blank (all_blank ns) (alone st)) (going_on (parsed ns) (grown n st))) b
+-- reading a list is making trees of the used nodes, and then one tree with blanks behind it
+parsed_made : (ns : List Node) (st : List Tree) → parsed ns st ≡ read_to ns st (used ns)
+parsed_made [] st = refl
+parsed_made (n ∷ ns) st = by (parsed_made ns) (blank_node n) refl
+  where
+    on : ((ts : List Tree) → parsed ns ts ≡ read_to ns ts (used ns)) → (o : Option (List Tree)) → going_on (parsed ns) o ≡ going_on (lone_before ns (used ns)) (option_and_then (made (take (used ns) ns)) o)
+    on next None = refl
+    on next (Some ts) = next ts
 
-module _ (ns : List Node) (at h s o : ℕ) (reached : Reached ns at h s o) (lt : at < length ns) (full : blank_node (node_at ns at) ≡ false) where
-  next_is : parsed (drop at ns) reached.trees ≡ going_on (parsed (drop (suc at) ns)) (grown (node_at ns at) reached.trees)
-  next_is = ap (λ (xs : List Node). parsed xs reached.trees) (drop-cons ns at Blank lt) ∙ parsed_next (node_at ns at) (drop (suc at) ns) reached.trees full
+    by : ((ts : List Tree) → parsed ns ts ≡ read_to ns ts (used ns)) → (b : Bool) → blank_node n ≡ b → parsed (n ∷ ns) st ≡ read_to (n ∷ ns) st (used (n ∷ ns))
+    by next true b =
+        ap (λ (x : Bool). parsed_on x (when_blank (all_blank ns) (alone st)) (going_on (parsed ns) (grown n st))) b
+        ∙ sym (ap (λ (x : Bool). read_to (n ∷ ns) st (cond (not x) (1 + used ns) 0)) b ∙ ap (λ (x : Bool). when_blank (x && all_blank ns) (alone st)) b)
+    by next false b =
+        let one_more : 1 + used ns ≡ suc (used ns) = omega arith in
+        ap (λ (x : Bool). parsed_on x (when_blank (all_blank ns) (alone st)) (going_on (parsed ns) (grown n st))) b
+        ∙ on next (grown n st)
+        ∙ sym (ap (λ (x : Bool). read_to (n ∷ ns) st (cond (not x) (1 + used ns) 0)) b ∙ ap (read_to (n ∷ ns) st) one_more)
 
-  pub go_on : (h' s' o' : ℕ) → Makes (node_at ns at) reached.trees h' s' o' → s' ≤ at + 1 → h' ≤ at + 1 → o' ≤ s' → Reached ns (at + 1) h' s' o'
-  go_on h' s' o' m few some less =
-      let u = ap used (drop-cons ns at Blank lt) ∙ not_blank (node_at ns at) (drop (suc at) ns) full in
-      let f = reached.front in
-      let e = ap (λ (k : ℕ). used (drop k ns)) (add-one at) in
-      record {
-        trees = m.0;
-        tallied = m.2;
-        same = ap (λ (k : ℕ). parsed (drop k ns) m.0) (add-one at) ∙ sym (next_is ∙ ap (going_on (parsed (drop (suc at) ns))) m.1) ∙ reached.same;
-        front = omega arith;
-        steps_few = few;
-        few_trees = some;
-        few_orders = less;
-      }
+pub used_within : (ns : List Node) → used ns ≤ length ns
+used_within ns = prefix_len-le-length (λ (n : Node). not (blank_node n)) ns
 
-  pub give_up : grown (node_at ns at) reached.trees ≡ None → script_in ns ≡ None
-  unfolding script_in
-  give_up g = ap few_steps (sym reached.same ∙ next_is ∙ ap (going_on (parsed (drop (suc at) ns))) g)
-
--- at the end of the nodes, or at a blank one, the rest decides
-pub Stops : List Node → Type 0
-Stops xs = (st : List Tree) → (parsed xs st ≡ when_blank (all_blank xs) (alone st)) × (used xs ≡ 0)
-
-stops_none : Stops []
-unfolding Stops
-stops_none st = (refl, refl)
-
-stops_blank : (n : Node) (xs : List Node) → blank_node n ≡ true → Stops (n ∷ xs)
-unfolding Stops
-stops_blank n xs b st = (
-  ap (λ (x : Bool). parsed_on x (when_blank (all_blank xs) (alone st)) (going_on (parsed xs) (grown n st))) b ∙ sym (ap (λ (x : Bool). when_blank (x && all_blank xs) (alone st)) b),
-  ap (λ (x : Bool). cond (not x) (1 + used xs) 0) b,
-)
-
-pub stops_end : (ns : List Node) (at : ℕ) → length ns ≤ at → Stops (drop at ns)
-stops_end ns at h = subst Stops (sym (drop_of_length-le ns h)) stops_none
-
-pub stops_at : (ns : List Node) (at : ℕ) → at < length ns → blank_node (node_at ns at) ≡ true → Stops (drop at ns)
-stops_at ns at h b = subst Stops (sym (drop-cons ns at Blank h)) (stops_blank (node_at ns at) (drop (suc at) ns) b)
+pub used_is : (ns : List Node) → unwrap_or (position blank_node ns) (length ns) ≡ used ns
+used_is ns = by (ltb (used ns) (length ns)) refl
+  where
+    by : (b : Bool) → ltb (used ns) (length ns) ≡ b → unwrap_or (cond (ltb (used ns) (length ns)) (Some (used ns)) None) (length ns) ≡ used ns
+    by true b = ap (λ (x : Bool). unwrap_or (cond x (Some (used ns)) None) (length ns)) b
+    by false b =
+        let w = used_within ns in
+        let l = ltb-false (used ns) (length ns) b in
+        ap (λ (x : Bool). unwrap_or (cond x (Some (used ns)) None) (length ns)) b ∙ omega arith
 
 lone : (st : List Tree) → length st ≡ 1 → (t : Tree) × (st ≡ t ∷ [])
 lone [] h = absurd (omega arith)
@@ -138,54 +104,64 @@ when_none : (b : Bool) (o : Option Tree) → o ≡ None → when_blank b o ≡ N
 when_none true o e = e
 when_none false o e = refl
 
-module _ (ns : List Node) (at h s o : ℕ) (reached : Reached ns at h s o) (stops : Stops (drop at ns)) where
-  stopped : script_in ns ≡ few_steps (when_blank (all_blank (drop at ns)) (alone reached.trees))
-  unfolding script_in Stops
-  stopped = ap few_steps (sym reached.same ∙ (stops reached.trees).0)
+-- the script in a list that is cut where its used nodes end
+module _ (ns xs rest : List Node) (u : ℕ) (is : u ≡ used ns) (front : xs ≡ take u ns) (behind : rest ≡ drop u ns) where
+  script_by : Option (List Tree) → Option Tree
+  script_by o = few_steps (going_on (λ (st : List Tree). when_blank (all_blank rest) (alone st)) o)
 
-  pub not_one : (h ≡ 1 → ⊥) → script_in ns ≡ None
-  not_one ne =
-      let m = reached.tallied.many in
-      stopped ∙ ap few_steps (when_none (all_blank (drop at ns)) (alone reached.trees) (not_lone reached.trees (λ e. ne (sym m ∙ e))))
+  script_is : script_in ns ≡ script_by (made xs [])
+  unfolding script_in script_by
+  script_is =
+      ap few_steps (parsed_made ns [] ∙ ap (read_to ns []) (sym is))
+      ∙ (λ i. few_steps (going_on (λ (st : List Tree). when_blank (all_blank (sym behind i)) (alone st)) (made (sym front i) [])))
 
-  pub not_blank_rest : all_blank (drop at ns) ≡ false → script_in ns ≡ None
-  not_blank_rest b = stopped ∙ ap (λ (x : Bool). few_steps (when_blank x (alone reached.trees))) b
+  pub lacking : made xs [] ≡ None → None ≡ extent_of ns
+  unfolding script_by
+  lacking e = sym (ap (extent_on ns) (script_is ∙ ap script_by e))
 
-  module _ (is_one : h ≡ 1) where
-    tree : Tree
-    tree = (lone reached.trees (reached.tallied.many ∙ is_one)).0
+  module _ (y : Tally) (m : Numbered (made xs []) (Some y)) where
+    stopped : script_in ns ≡ few_steps (when_blank (all_blank rest) (alone m.0))
+    unfolding script_by
+    stopped = script_is ∙ ap script_by m.1
 
-    trees_are : reached.trees ≡ tree ∷ []
-    unfolding tree
-    trees_are = (lone reached.trees (reached.tallied.many ∙ is_one)).1
+    pub not_one : (y.height ≡ 1 → ⊥) → None ≡ extent_of ns
+    not_one ne =
+        let many = m.2.many in
+        sym (ap (extent_on ns) (stopped ∙ ap few_steps (when_none (all_blank rest) (alone m.0) (not_lone m.0 (λ e. ne (sym many ∙ e))))))
 
-    steps_are : steps tree ≡ s
-    steps_are = let a = ap total_steps trees_are in let b = reached.tallied.steps_are in omega arith
+    pub not_blank : all_blank rest ≡ false → None ≡ extent_of ns
+    not_blank b = sym (ap (extent_on ns) (stopped ∙ ap (λ (x : Bool). few_steps (when_blank x (alone m.0))) b))
 
-    orders_are : orders tree ≡ o
-    orders_are = let a = ap total_orders trees_are in let b = reached.tallied.orders_are in omega arith
+    module _ (is_one : y.height ≡ 1) where
+      tree : Tree
+      tree = (lone m.0 (m.2.many ∙ is_one)).0
 
-    pub too_many : most_steps < s → script_in ns ≡ None
-    too_many gt =
-        stopped
-        ∙ ap (λ (xs : List Tree). few_steps (when_blank (all_blank (drop at ns)) (alone xs))) trees_are
-        ∙ by (all_blank (drop at ns))
-      where
-        by : (b : Bool) → few_steps (when_blank b (Some tree)) ≡ None
-        by true = let e = steps_are in ap (λ (x : Bool). cond x (Some tree) None) (lt-leb (steps tree) most_steps (omega arith))
-        by false = refl
+      trees_are : m.0 ≡ tree ∷ []
+      unfolding tree
+      trees_are = (lone m.0 (m.2.many ∙ is_one)).1
 
-    pub whole : s ≤ most_steps → all_blank (drop at ns) ≡ true → (p : ℕ) → p ≡ o → (t : Tree) × (script_in ns ≡ Some t) × (at ≡ used ns) × (p ≡ orders t)
-    unfolding Stops
-    whole le b p e =
-        let w = orders_are in
-        let f = reached.front in
-        let z = (stops []).1 in
-        let v = steps_are in (
-          tree,
+      steps_are : steps tree ≡ y.steps
+      steps_are = let a = ap total_steps trees_are in let b = m.2.steps_are in omega arith
+
+      orders_are : orders tree ≡ y.orders
+      orders_are = let a = ap total_orders trees_are in let b = m.2.orders_are in omega arith
+
+      pub orders_few : y.orders ≤ y.steps
+      orders_few = let a = orders_steps tree in let b = steps_are in let c = orders_are in omega arith
+
+      pub too_many : most_steps < y.steps → None ≡ extent_of ns
+      too_many gt =
+          sym (ap (extent_on ns) (stopped ∙ ap (λ (ts : List Tree). few_steps (when_blank (all_blank rest) (alone ts))) trees_are ∙ by (all_blank rest)))
+        where
+          by : (b : Bool) → few_steps (when_blank b (Some tree)) ≡ None
+          by true = let e = steps_are in ap (λ (x : Bool). cond x (Some tree) None) (lt-leb (steps tree) most_steps (omega arith))
+          by false = refl
+
+      pub whole : y.steps ≤ most_steps → all_blank rest ≡ true → Some (record { used = u; orders = y.orders }) ≡ extent_of ns
+      whole le b =
+          let v = steps_are in
+          let t : script_in ns ≡ Some tree =
           stopped
-              ∙ (λ i. few_steps (when_blank (b i) (alone (trees_are i))))
-              ∙ ap (λ (x : Bool). cond x (Some tree) None) (le-leb (steps tree) most_steps (omega arith)),
-          omega arith,
-          omega arith,
-        )
+          ∙ (λ i. few_steps (when_blank (b i) (alone (trees_are i))))
+          ∙ ap (λ (x : Bool). cond x (Some tree) None) (le-leb (steps tree) most_steps (omega arith)) in
+          sym (ap (extent_on ns) t ∙ (λ i. Some (record { used = sym is i; orders = orders_are i })))

@@ -1,9 +1,10 @@
 -- A tree in a list of nodes: each node after those below it, the rest of the list blank.
-use Rattle.std.specs.Prelude.{◌≡◌, ℕ, ◌+◌, Bool, true, false, cond, not, ◌&&◌, List, [], ◌∷◌, ◌++◌, Some, None, Option, nat_le, slice_index_or}
-use Rattle.std.specs.List.{prefix_len}
+use Rattle.std.specs.Prelude.{◌≡◌, ℕ, ◌+◌, Bool, true, false, cond, not, List, [], ◌∷◌, ◌++◌, Some, None, Option, nat_le}
+use Rattle.std.specs.List.{prefix_len, list_all}
+use Rattle.std.specs.Option.{option_and_then}
 use Rattle.script.specs.declared.node.Node.{Node}
 use Rattle.script.specs.declared.node.Node.TheVariants.{Blank, Order, Test, Sequence, If, When, While}
-use Rattle.script.specs.Trees.{Tree, ordered, tested, joined, branched, guarded, looped, steps}
+use Rattle.script.specs.Trees.{Tree, ordered, tested, joined, branched, guarded, looped, steps, orders}
 
 -- the most steps of a script
 abbrev pub most_steps : ℕ
@@ -21,17 +22,11 @@ code (looped s l) = code l ++ (While (record { bits = s }) ∷ [])
 -- whether a node is blank
 abbrev pub blank_node : Node → Bool
 blank_node Blank = true
-blank_node (Order o) = false
-blank_node (Test s) = false
-blank_node Sequence = false
-blank_node (If s) = false
-blank_node (When s) = false
-blank_node (While s) = false
+blank_node _ = false
 
 -- whether each node of a list is blank
 abbrev pub all_blank : List Node → Bool
-all_blank [] = true
-all_blank (n ∷ ns) = blank_node n && all_blank ns
+all_blank ns = list_all blank_node ns
 
 -- the list is the tree's nodes, and every node behind them is blank
 pub record Holds (ns : List Node) (t : Tree) : Type 0 where
@@ -59,6 +54,11 @@ grown Sequence st = two joined st
 grown (If s) st = two (branched s.bits) st
 grown (When s) st = one (guarded s.bits) st
 grown (While s) st = one (looped s.bits) st
+
+-- what nodes make of the trees before them; none if one of the nodes lacks trees
+abbrev pub made : List Node → List Tree → Option (List Tree)
+made [] st = Some st
+made (n ∷ ns) st = option_and_then (made ns) (grown n st)
 
 -- the one tree that is left at the end
 abbrev pub alone : List Tree → Option Tree
@@ -99,15 +99,11 @@ script_in ns = few_steps (parsed ns [])
 abbrev pub used : List Node → ℕ
 used ns = prefix_len (λ n. not (blank_node n)) ns
 
--- the node at a place; behind the list it is blank
-abbrev pub node_at : List Node → ℕ → Node
-node_at ns i = slice_index_or ns i Blank
+-- a list ends with the nodes of a tree; n orders stand before these, and k before the end of the list
+pub record Ends (ns : List Node) (k : ℕ) (t : Tree) (front : List Node) (n : ℕ) : Type 0 where
+  pub nodes : ns ≡ front ++ code t
+  pub count : k ≡ n + orders t
 
--- the nodes of a tree stand from i on, to the one before e
-abbrev pub Placed : List Node → ℕ → Tree → ℕ → Type 0
-Placed ns i (ordered o) e = (e ≡ i + 1) × (node_at ns i ≡ Order o)
-Placed ns i (tested s) e = (e ≡ i + 1) × (node_at ns i ≡ Test (record { bits = s }))
-Placed ns i (joined l r) e = (m : ℕ) × (k : ℕ) × (e ≡ k + 1) × Placed ns i l m × Placed ns m r k × (node_at ns k ≡ Sequence)
-Placed ns i (branched s l r) e = (m : ℕ) × (k : ℕ) × (e ≡ k + 1) × Placed ns i l m × Placed ns m r k × (node_at ns k ≡ If (record { bits = s }))
-Placed ns i (guarded s l) e = (k : ℕ) × (e ≡ k + 1) × Placed ns i l k × (node_at ns k ≡ When (record { bits = s }))
-Placed ns i (looped s l) e = (k : ℕ) × (e ≡ k + 1) × Placed ns i l k × (node_at ns k ≡ While (record { bits = s }))
+-- the same of some tree
+abbrev pub SomeTree : List Node → ℕ → Type 0
+SomeTree ns k = (t : Tree) × (front : List Node) × (n : ℕ) × Ends ns k t front n

@@ -2,9 +2,8 @@
 use Rattle.std.specs.Prelude.{◌≡◌, ℕ, ◌+◌, List, [], ◌∷◌, length, Some, None, Option}
 use Rattle.script.specs.declared.node.Node.{Node}
 use Rattle.script.specs.declared.Tally.{Tally}
-use Rattle.script.specs.declared.Extent.{Extent}
 use Rattle.script.specs.Trees.{Tree, steps, orders}
-use Rattle.script.specs.Lists.{grown, script_in, used}
+use Rattle.script.specs.Lists.{grown}
 
 -- the steps of several trees
 abbrev pub total_steps : List Tree → ℕ
@@ -22,12 +21,11 @@ pub record Tallied (st : List Tree) (height steps' orders' : ℕ) : Type 0 where
   pub steps_are : total_steps st ≡ steps'
   pub orders_are : total_orders st ≡ orders'
 
+-- trees or none, in numbers
+abbrev pub Numbered : Option (List Tree) → Option Tally → Type 0
+Numbered o None = o ≡ None
+Numbered o (Some y) = (st : List Tree) × (o ≡ Some st) × Tallied st y.height y.steps y.orders
+
 -- what a node does to the trees before it, in numbers
 abbrev pub Grows : Node → List Tree → Option Tally → Type 0
-Grows n st None = grown n st ≡ None
-Grows n st (Some y) = (st' : List Tree) × (grown n st ≡ Some st') × Tallied st' y.height y.steps y.orders
-
--- the extent of the script in a list: none if there is none
-abbrev pub Surveyed : List Node → Option Extent → Type 0
-Surveyed ns None = script_in ns ≡ None
-Surveyed ns (Some x) = (t : Tree) × (script_in ns ≡ Some t) × (x.used ≡ used ns) × (x.orders ≡ orders t)
+Grows n st r = Numbered (grown n st) r

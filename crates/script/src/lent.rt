@@ -2,14 +2,13 @@
 ghost use Rattle.std.specs.Prelude.{◌≡◌};
 ghost use Rattle.script.specs.Extents.{extent_of};
 
+use crate::Extent;
 use crate::node::Node;
 
-// A node list with the nodes that its script takes and how many of them are orders; 0 and 0 if it holds none.
+// A node list with the extent of the script that it holds, if it holds one.
 #[derive(Clone, Copy)]
 pub struct Script<'a> {
     pub(crate) nodes: &'a [Node],
-    pub(crate) used: usize,
-    pub(crate) orders: u16,
-    ghost reach: { used ≡ (extent_of nodes.now).0 },
-    ghost count: { orders ≡ (extent_of nodes.now).1 },
+    pub(crate) extent: Option<Extent>,
+    ghost surveyed: { extent ≡ extent_of nodes.now },
 }

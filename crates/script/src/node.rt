@@ -3,9 +3,10 @@ use atoms::AtomSet;
 use labels::Order as ScriptOrder;
 
 // A node of a script. Each stands after those below it.
-#[derive(Clone, Copy, Debug)]
+// Reading and running use no heap, so a script is a lent list of these and no tree of boxes.
+#[derive(Clone, Copy, Debug, PartialEq, Eq)]
 pub enum Node {
-    // no node
+    // no node: a lent list has a fixed length, and blanks fill it up
     Blank,
     // an order
     Order(ScriptOrder),

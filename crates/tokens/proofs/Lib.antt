@@ -1,3 +1,4 @@
+pub mod Marks
 pub mod Runs
 pub mod Positions
 pub mod Streams

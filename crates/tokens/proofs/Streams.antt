@@ -1,5 +1,5 @@
 -- The tokens from a position on are the next token and those that follow it.
-use Rattle.std.proofs.Common.{◌≡◌, ℕ, zero, suc, ◌-◌, ◌<◌, ◌≤◌, List, length, Ok, Err, Result, refl, ap, ◌∙◌, arith}
+use Rattle.std.proofs.Common.{◌≡◌, ℕ, zero, suc, ◌-◌, ◌<◌, ◌≤◌, List, length, Ok, Err, Result, sym, refl, ap, ◌∙◌, arith}
 use Rattle.automata.specs.declared.Fault.{Fault}
 use Rattle.tokens.specs.declared.Token.{Token}
 use Rattle.tokens.specs.declared.Token.TheVariants.{Word, Number, Mark, End}
@@ -40,3 +40,15 @@ took_from_token text at e (End p) h q = stream_next text at h ∙ ap (stream_on 
 
 pub bad_from_fault : (text : List ℕ) (at : ℕ) (f : Fault) → at ≤ length text → next_token text at ≡ Err f → stream_at text at ≡ bad f
 bad_from_fault text at f h q = stream_next text at h ∙ ap (stream_on (stream_at text)) q
+
+-- a number among the tokens is at most 127
+number_on : (n at : ℕ) (f : ℕ → Stream) (x : Result (Lexeme × ℕ) Fault) (p v : ℕ) (rest : Stream) → Within n at x → stream_on f x ≡ number p v rest → v ≤ 127
+number_on n at f (Ok t) p v rest h e = by t.0 t.1 h e
+  where
+    by : (x : Lexeme) (k : ℕ) → Steps n at x k → before x (f k) ≡ number p v rest → v ≤ 127
+    by (Lexeme.number q u) k g i = let z : u ≡ v = cc in omega arith
+    by _ k g i = cc
+number_on n at f (Err b) p v rest h e = cc
+
+pub number_ahead : (text : List ℕ) (at p v : ℕ) (rest : Stream) → at ≤ length text → stream_at text at ≡ number p v rest → v ≤ 127
+number_ahead text at p v rest h e = number_on (length text) at (stream_at text) (next_token text at) p v rest (next_within text at h) (sym (stream_next text at h) ∙ e)

@@ -1,15 +1,19 @@
 -- Which bytes are blanks, letters and digits, and the byte of each mark.
 use Rattle.std.specs.Prelude.{ℕ, Bool, cond, ◌&&◌, ◌||◌, Some, None, Option, ◌==◌, nat_le}
-use Rattle.tokens.specs.declared.Class.{Class}
-use Rattle.tokens.specs.declared.Class.TheVariants.{Space, Letter, Digit}
 use Rattle.tokens.specs.declared.Mark.{Mark}
 use Rattle.tokens.specs.declared.Mark.TheVariants.{OpenBrace, CloseBrace, OpenParen, CloseParen, OpenBracket, CloseBracket, Semicolon, Not, And, Or, Minus}
 
--- blanks are the bytes 9, 10 and 32, letters a to z, digits 0 to 9
-abbrev pub has_of : Class → ℕ → Bool
-has_of Space b = b == 9 || b == 10 || b == 32
-has_of Letter b = nat_le 97 b && nat_le b 122
-has_of Digit b = nat_le 48 b && nat_le b 57
+-- blanks are the bytes 9, 10 and 32
+abbrev pub is_blank : ℕ → Bool
+is_blank b = b == 9 || b == 10 || b == 32
+
+-- letters are a to z
+abbrev pub is_letter : ℕ → Bool
+is_letter b = nat_le 97 b && nat_le b 122
+
+-- digits are 0 to 9
+abbrev pub is_digit : ℕ → Bool
+is_digit b = nat_le 48 b && nat_le b 57
 
 -- the byte that writes a mark
 abbrev pub mark_byte : Mark → ℕ

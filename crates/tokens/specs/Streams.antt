@@ -1,5 +1,5 @@
 -- The tokens of a text in their order, to its end or to the first that is faulty.
-use Rattle.std.specs.Prelude.{◌≡◌, ℕ, zero, suc, ◌+◌, ◌-◌, Bool, true, false, cond, List, length, Some, None, Ok, Err, Option, Result}
+use Rattle.std.specs.Prelude.{◌≡◌, ◌⊎◌, ℕ, zero, suc, ◌+◌, ◌-◌, Bool, true, false, cond, List, length, Some, None, Ok, Err, Option, Result}
 use Rattle.automata.specs.declared.Fault.{Fault}
 use Rattle.automata.specs.declared.Fault.TheVariants.{Unexpected}
 use Rattle.tokens.specs.declared.Mark.{Mark as Sign}
@@ -9,7 +9,7 @@ use Rattle.tokens.specs.declared.Token.{Token}
 use Rattle.tokens.specs.declared.Token.TheVariants.{Word, Number, Mark, End}
 use Rattle.tokens.specs.declared.lent.Reader.{Reader}
 use Rattle.tokens.specs.Classes.{same_mark}
-use Rattle.tokens.specs.Tokens.{Lexeme, next_token}
+use Rattle.tokens.specs.Tokens.{Lexeme, token_place, next_token}
 
 -- tokens with their places, to the end of the text or to a token's fault
 pub data Stream : Type 0 where
@@ -59,6 +59,16 @@ Took s (Ok (Number p v)) rest = s ≡ number p v rest
 Took s (Ok (Mark p m)) rest = s ≡ mark p m rest
 Took s (Ok (End p)) rest = s ≡ end p
 Took s (Err f) rest = s ≡ bad f
+
+-- what a test, whose answers `gives` relates to the token, makes of the next token: an answer takes it; without one, or at a fault, all is left
+abbrev pub Accepts : {T : Type 0} → (Token → Option T → Type 0) → Stream → Option T → Stream → Type 0
+Accepts gives s (Some v) rest = (t : Token) × Took s (Ok t) rest × gives t (Some v)
+Accepts gives s None rest = (rest ≡ s) × (((t : Token) × (q : Stream) × Took s (Ok t) q × gives t None) ⊎ ((f : Fault) × (s ≡ bad f)))
+
+-- the same where nothing else is allowed: no answer is the fault that the token was not expected
+abbrev pub Expects : {T : Type 0} → (Token → Option T → Type 0) → Stream → Result T Fault → Stream → Type 0
+Expects gives s (Ok v) rest = (t : Token) × Took s (Ok t) rest × gives t (Some v)
+Expects gives s (Err f) rest = (s ≡ bad f) ⊎ ((t : Token) × (q : Stream) × Took s (Ok t) q × gives t None × (f ≡ Unexpected (token_place t)))
 
 -- whether the mark comes next
 abbrev pub begins : Sign → Stream → Bool

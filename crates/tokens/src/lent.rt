@@ -1,4 +1,5 @@
-// A reader over the lent bytes of a text, and its place in them.
+// A reader over the lent bytes of a text, and its place in them: a fault names the place, which the rest of the text alone does not tell.
+// That methods keep the text compares two readers, so each promises it: an invariant speaks of one.
 ghost use Rattle.std.specs.Prelude.{◌≡◌, ◌≤◌, length};
 
 #[derive(Drop)]

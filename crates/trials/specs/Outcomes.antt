@@ -1,5 +1,7 @@
 -- The outcome of a run, and outcomes as lines store them.
 use Rattle.std.specs.Prelude.{◌≡◌, ℕ, List, [], ◌∷◌, Some, codes}
+use Rattle.automata.specs.declared.Fault.{Fault}
+use Rattle.automata.specs.Faults.{number_of, layer_of, place_of}
 use Rattle.automata.specs.declared.Ending.{Ending}
 use Rattle.automata.specs.declared.Ending.TheVariants as ending
 use Rattle.trials.specs.declared.outcome.Outcome.{Outcome}
@@ -12,6 +14,10 @@ outcome_of ending.Accepted = Accepted
 outcome_of (ending.Rejected p) = Rejected p
 outcome_of (ending.Early p) = Early p
 outcome_of (ending.Out p) = Out p
+
+-- the outcome of a refusal
+abbrev pub refused_by : Fault → Outcome
+refused_by f = Refused (number_of f) (layer_of f) (place_of f)
 
 -- the fields are a word and the number p
 abbrev pub At : List ℕ → ℕ → List (List ℕ) → Type 0

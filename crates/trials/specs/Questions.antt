@@ -3,8 +3,8 @@ use Rattle.std.specs.Prelude.{◌≡◌, ℕ, if◌then◌else◌, ◌⊎◌, Li
 use Rattle.std.specs.List.{slice_split}
 use Rattle.std.specs.Str.{bytes_eq}
 use Rattle.automata.specs.declared.Fault.{Fault}
+use Rattle.automata.specs.declared.Move.{Move}
 use Rattle.automata.specs.declared.Label.{Ghosts as LabelGhosts}
-use Rattle.automata.specs.Faults.{number_of, layer_of, place_of}
 use Rattle.automata.specs.Runs.{ended}
 use Rattle.labels.specs.declared.Kind.{Kind}
 use Rattle.labels.specs.declared.Kind.TheVariants.{Bare, Measured}
@@ -13,14 +13,14 @@ use Rattle.answers.specs.declared.Cause.{Cause}
 use Rattle.answers.specs.declared.Cause.TheVariants as cause
 use Rattle.answers.specs.Told.{text_as, Holding}
 use Rattle.trials.specs.declared.outcome.Outcome.{Outcome}
-use Rattle.trials.specs.declared.outcome.Outcome.TheVariants.{Read, Refused}
+use Rattle.trials.specs.declared.outcome.Outcome.TheVariants.{Read}
 use Rattle.trials.specs.declared.question.Task.{Task}
 use Rattle.trials.specs.declared.question.Task.TheVariants.{Size, Replay}
 use Rattle.trials.specs.declared.question.Question.{Question}
 use Rattle.trials.specs.Escapes.{unescaped}
 use Rattle.trials.specs.Fields.{Writes, AllWritten}
 use Rattle.trials.specs.Kinds.{Numbers}
-use Rattle.trials.specs.Outcomes.{outcome_of}
+use Rattle.trials.specs.Outcomes.{outcome_of, refused_by}
 
 -- the items of a list with commas; `-` stands for none
 abbrev pub items_in : List ℕ → List (List ℕ)
@@ -52,10 +52,6 @@ AsksFor (Replay s xs) fields q rest =
 abbrev pub Asks : List (List ℕ) → Question → List (List ℕ) → Type 0
 Asks fields q rest = AsksFor q.task fields q rest
 
--- the outcome of a refusal
-abbrev pub refused_by : Fault → Outcome
-refused_by f = Refused (number_of f) (layer_of f) (place_of f)
-
 -- the outcome of a call that gave no answer
 abbrev pub Declined : Cause → Outcome → Type 0
 Declined (cause.Refused f) o = o ≡ refused_by f
@@ -64,6 +60,11 @@ Declined cause.Memory o = ⊥
 -- the text is refused, and this is its outcome
 abbrev pub Refusal : Kind → List ℕ → Outcome → Type 0
 Refusal k text o = (f : Fault) × (text_as k text ≡ Err f) × (o ≡ refused_by f)
+
+-- the outcome of a task on a machine: its size, or how its run ends
+abbrev pub Met : {L : Type 0} → Task → Outcome → ℕ → (ℕ → ℕ → Move L) → Type 0
+Met Size o size moves = o ≡ Read size
+Met (Replay s xs) o size moves = o ≡ outcome_of (ended moves 0 s (vec_items xs))
 
 -- the outcome of a task over a text: its refusal, or the size or the ending of its machine
 abbrev pub Found : {L : Type 0} → LabelGhosts L → Kind → List ℕ → Task → Outcome → Type 0

@@ -14,12 +14,11 @@ enum Escape {
     HexDigit(u8),
 }
 
-// What a byte of escaped text makes: nothing yet, a byte, or a fault.
+// What a byte of escaped text makes: nothing yet, or a byte.
 #[derive(Clone, Copy)]
 enum Step {
     On(Escape),
     Byte(u8),
-    Wrong,
 }
 
 // The value of a hexadecimal digit.
@@ -34,28 +33,24 @@ fn hex(byte: u8) -> Option<u8>
 }
 
 impl Escape {
-    // What one more byte makes.
-    fn step(self, byte: u8) -> Step
+    // What one more byte makes; none if no escape goes on with it.
+    fn step(self, byte: u8) -> Option<Step>
         ensures { result ≡ step_of self byte }
     {
         match self {
-            Escape::Nothing if byte == b'\\' => Step::On(Escape::Backslash),
-            Escape::Nothing => Step::Byte(byte),
+            Escape::Nothing if byte == b'\\' => Some(Step::On(Escape::Backslash)),
+            Escape::Nothing => Some(Step::Byte(byte)),
             Escape::Backslash => match byte {
-                b't' => Step::Byte(b'\t'),
-                b'n' => Step::Byte(b'\n'),
-                b'\\' => Step::Byte(b'\\'),
-                b'x' => Step::On(Escape::Hex),
-                _ => Step::Wrong,
+                b't' => Some(Step::Byte(b'\t')),
+                b'n' => Some(Step::Byte(b'\n')),
+                b'\\' => Some(Step::Byte(b'\\')),
+                b'x' => Some(Step::On(Escape::Hex)),
+                _ => None,
             },
-            Escape::Hex => match hex(byte) {
-                Some(high) => Step::On(Escape::HexDigit(high)),
-                None => Step::Wrong,
-            },
-            Escape::HexDigit(high) => match hex(byte) {
-                Some(low) => Step::Byte(high.wrapping_mul(16).wrapping_add(low)),
-                None => Step::Wrong,
-            },
+            Escape::Hex => hex(byte).map(|high| Step::On(Escape::HexDigit(high))),
+            Escape::HexDigit(high) => {
+                hex(byte).map(|low| Step::Byte(high.wrapping_mul(16).wrapping_add(low)))
+            }
         }
     }
 }
@@ -67,13 +62,15 @@ pub(crate) fn unescape(heap: Global, text: &[u8]) -> anyhow::Result<Vec<u8>>
     let mut bytes = Vec::new(heap);
     let mut escape = Escape::Nothing;
     for b in text {
-        match escape.step(*b) {
+        let step = escape
+            .step(*b)
+            .ok_or_else(|| anyhow!("an escape that is not known"))?;
+        match step {
             Step::On(next) => escape = next,
             Step::Byte(byte) => {
                 bytes.push(byte)?;
                 escape = Escape::Nothing;
             }
-            Step::Wrong => return Err(anyhow!("an escape that is not known")),
         }
     }
     match escape {

@@ -3,7 +3,7 @@
 
 ghost use Rattle.std.specs.Prelude.{◌≡◌, ◌+◌, ◌-◌, ◌^◌, map, IfOk, if◌then◌else◌, nat_lt};
 ghost use Rattle.automata.specs.declared.Fault.TheVariants.{ShortBuffer};
-ghost use Rattle.trials.specs.Questions.{refused_by};
+ghost use Rattle.trials.specs.Outcomes.{refused_by};
 ghost use Rattle.trials.specs.Comparisons.{Compared};
 
 use anyhow::anyhow;
@@ -16,8 +16,8 @@ mod question;
 
 use labels::Kind;
 use outcome::Outcome;
-use question::{Question, read_into};
-use reading::NODE_RECORDS;
+use question::Question;
+use reading::{NODE_RECORDS, read};
 use script::Node;
 
 // How many lines a file has, and how many of them differ.
@@ -35,11 +35,7 @@ impl Tally {
     {
         Tally {
             lines: self.lines.saturating_add(1),
-            differ: if differs {
-                self.differ.saturating_add(1)
-            } else {
-                self.differ
-            },
+            differ: self.differ.saturating_add(u64::from(differs)),
         }
     }
 }
@@ -49,7 +45,7 @@ fn both(heap: Global, fields: &[&str]) -> anyhow::Result<(Outcome, Outcome)>
     ensures { IfOk result (λ x. Compared (map (λ x. x.now) fields.now) x.0 x.1) }
 {
     let (question, rest) = Question::of(heap, fields)?;
-    let stored = Outcome::parse(rest)?;
+    let stored = Outcome::try_from(rest)?;
     let found = question.answer(heap)?;
     Ok((stored, found))
 }
@@ -79,7 +75,10 @@ fn short_list(heap: Global) -> anyhow::Result<Outcome>
     ensures { IfOk result (λ o. o ≡ refused_by ShortBuffer) }
 {
     let mut nodes = vec![in heap; Node::Blank; NODE_RECORDS - 1]?;
-    Ok(read_into(Kind::Measured, b"line", &mut nodes[..]))
+    match read(Kind::Measured, b"line", &mut nodes) {
+        Ok(()) => Err(anyhow!("a short list that is not refused")),
+        Err(fault) => Ok(Outcome::from(fault)),
+    }
 }
 
 // Prints how many lines of a file differ; some that do are an error.
@@ -95,9 +94,10 @@ fn report(rt: &HostRuntime, file: &str) -> anyhow::Result<()> {
 fn work(rt: &HostRuntime) -> anyhow::Result<()> {
     let short = short_list(rt.alloc())?;
     println!(rt; "a list one record short: {short}")?;
-    report(rt, "bounds.txt")?;
-    report(rt, "reading.txt")?;
-    report(rt, "replay.txt")
+    for file in ["bounds.txt", "reading.txt", "replay.txt"] {
+        report(rt, file)?;
+    }
+    Ok(())
 }
 
 fn main(rt: HostRuntime) -> anyhow::Result<()> {

@@ -1,13 +1,12 @@
 // Outcomes: what is stored and what is found.
 ghost use Rattle.std.specs.Prelude.{◌≡◌, map, IfOk};
-ghost use Rattle.automata.specs.Faults.{number_of, layer_of, place_of};
-ghost use Rattle.trials.specs.Fields.{Writes};
-ghost use Rattle.trials.specs.Outcomes.{outcome_of, Stored};
+ghost use Rattle.trials.specs.Outcomes.{outcome_of, refused_by, Stored};
 
 use anyhow::anyhow;
 use automata::{Ending, Fault};
 use std::fmt;
 
+// What a line stores, or what was found. A refusal is three numbers and no Fault: a stored line may say what no fault has.
 #[derive(Clone, Copy, PartialEq)]
 pub enum Outcome {
     // the machine's size
@@ -23,36 +22,24 @@ pub enum Outcome {
     Out(usize),
 }
 
-// The number that a field writes in decimal digits.
-pub(crate) fn number(field: &str) -> anyhow::Result<usize>
-    ensures { IfOk result (λ n. Writes n field.now) }
-{
-    Ok(field.parse::<usize>()?)
-}
+// The outcome of a refusal.
+impl From<Fault> for Outcome {
+    ghost from_gives = { λ f r. r ≡ refused_by f };
 
-// The number up to 255 that a field writes in decimal digits.
-pub(crate) fn byte(field: &str) -> anyhow::Result<u8>
-    ensures { IfOk result (λ n. Writes n field.now) }
-{
-    Ok(field.parse::<u8>()?)
-}
-
-impl Outcome {
-    // A refusal.
-    pub(crate) fn refused(fault: Fault) -> Outcome
-        ensures { result ≡ Outcome.Refused (number_of fault) (layer_of fault) (place_of fault) }
-    {
+    fn from(fault: Fault) -> Outcome {
         Outcome::Refused {
             number: fault.number(),
             layer: fault.layer(),
             place: fault.place(),
         }
     }
+}
 
-    // How a run ended.
-    pub(crate) fn ended(ending: Ending) -> Outcome
-        ensures { result ≡ outcome_of ending }
-    {
+// The outcome of a run that ended so.
+impl From<Ending> for Outcome {
+    ghost from_gives = { λ e r. r ≡ outcome_of e };
+
+    fn from(ending: Ending) -> Outcome {
         match ending {
             Ending::Accepted => Outcome::Accepted,
             Ending::Rejected(place) => Outcome::Rejected(place),
@@ -60,22 +47,26 @@ impl Outcome {
             Ending::Out(place) => Outcome::Out(place),
         }
     }
+}
 
-    // The outcome that the fields of a line store; how many steps a script has is not compared.
-    pub(crate) fn parse(fields: &[&str]) -> anyhow::Result<Outcome>
-        ensures { IfOk result (λ o. Stored (map (λ x. x.now) fields.now) o) }
-    {
+// The outcome that the fields of a line store; how many steps a script has is not compared.
+impl<'a, 'b> TryFrom<&'a [&'b str]> for Outcome {
+    type Error = anyhow::Error;
+
+    ghost try_from_gives = { λ fields r. IfOk r (λ o. Stored (map (λ x. x.now) fields.now) o) };
+
+    fn try_from(fields: &'a [&'b str]) -> anyhow::Result<Outcome> {
         match fields {
-            ["ok", size, _] => Ok(Outcome::Read(number(size)?)),
+            ["ok", size, _] => Ok(Outcome::Read(size.parse()?)),
             ["refused", cause, layer, place] => Ok(Outcome::Refused {
-                number: byte(cause)?,
-                layer: Some(byte(layer)?),
-                place: Some(number(place)?),
+                number: cause.parse()?,
+                layer: Some(layer.parse()?),
+                place: Some(place.parse()?),
             }),
             ["accepted"] => Ok(Outcome::Accepted),
-            ["rejected", place] => Ok(Outcome::Rejected(number(place)?)),
-            ["early", place] => Ok(Outcome::Early(number(place)?)),
-            ["out", place] => Ok(Outcome::Out(number(place)?)),
+            ["rejected", place] => Ok(Outcome::Rejected(place.parse()?)),
+            ["early", place] => Ok(Outcome::Early(place.parse()?)),
+            ["out", place] => Ok(Outcome::Out(place.parse()?)),
             _ => Err(anyhow!("an outcome that is not known")),
         }
     }

@@ -1,21 +1,16 @@
 // What a line of a file asks the libraries.
-ghost use Rattle.std.specs.Prelude.{◌≡◌, ◌==◌, [], map, IfOk, Err, codes};
-ghost use Rattle.automata.specs.declared.Fault.{Fault as Failing};
-ghost use Rattle.automata.specs.Faults.{number_of, layer_of, place_of};
-ghost use Rattle.reading.specs.Readings.{outcome_of as read_as};
-ghost use Rattle.trials.specs.Fields.{AllWritten};
+ghost use Rattle.std.specs.Prelude.{◌≡◌, ◌==◌, [], map, IfOk, codes};
 ghost use Rattle.std.specs.List.{slice_split};
+ghost use Rattle.answers.specs.Told.{Told};
+ghost use Rattle.trials.specs.Fields.{AllWritten};
 ghost use Rattle.trials.specs.Kinds.{Numbers};
-ghost use Rattle.trials.specs.Questions.{Atoms, Replays, Questions, Asks, Declined, Found, FoundBy};
+ghost use Rattle.trials.specs.Questions.{Atoms, Replays, Asks, Declined, Met, FoundBy};
 
 use crate::escape::unescape;
-use crate::outcome::{Outcome, byte, number};
+use crate::outcome::Outcome;
 use answers::{Cause, replay, states};
 use anyhow::anyhow;
-use automata::{Label, Machine, run};
 use labels::{Bare, Kind, Measured, Spelled};
-use reading::read;
-use script::{Node, Script, ScriptMachine};
 use std::alloc::Global;
 
 // What is asked of a script.
@@ -33,27 +28,20 @@ pub struct Question {
     task: Task,
 }
 
-// The kind of label that a field numbers.
+// The kind of label that a field numbers. The proof of `Question::of` closes over this clause, not over that of `parse`.
 fn kind_of(field: &str) -> anyhow::Result<Kind>
     ensures { IfOk result (λ k. Numbers k field.now) }
 {
-    if field == "1" {
-        return Ok(Kind::Bare);
-    }
-    if field == "2" {
-        return Ok(Kind::Measured);
-    }
-    Err(anyhow!("a kind that is not known"))
+    Ok(field.parse::<Kind>()?)
 }
 
 // The numbers of a list with commas.
 fn numbers_of(heap: Global, list: &str) -> anyhow::Result<Vec<u8>>
     ensures { IfOk result (λ v. AllWritten v.items (slice_split (λ b. b == 44) list.now)) }
 {
-    let items = list.split(',').collect::<Vec<&str>>(heap)?;
     let mut numbers = Vec::new(heap);
-    for item in &items {
-        numbers.push(byte(item)?)?;
+    for item in list.split(',') {
+        numbers.push(item.parse::<u8>()?)?;
     }
     Ok(numbers)
 }
@@ -74,7 +62,7 @@ fn replay_of(heap: Global, state: &str, atoms: &str) -> anyhow::Result<Task>
     ensures { IfOk result (λ t. Replays state.now atoms.now t) }
 {
     Ok(Task::Replay {
-        state: number(state)?,
+        state: state.parse::<usize>()?,
         atoms: atoms_of(heap, atoms)?,
     })
 }
@@ -115,59 +103,32 @@ impl Question {
         ensures { IfOk result (λ o. FoundBy self.now o) }
     {
         match self.kind {
-            Kind::Bare => answer_as::<Bare>(heap, self),
-            Kind::Measured => answer_as::<Measured>(heap, self),
+            Kind::Bare => answer_as::<Bare>(heap, self).or_else(refusal),
+            Kind::Measured => answer_as::<Measured>(heap, self).or_else(refusal),
         }
     }
 }
 
-// The outcome of a call that the library refused, unless memory lacks.
+// The outcome of a text that has no answer, unless memory lacks.
 fn refusal(cause: Cause) -> anyhow::Result<Outcome>
     ensures { IfOk result (λ o. Declined cause o) }
 {
     match cause {
-        Cause::Refused(fault) => Ok(Outcome::refused(fault)),
+        Cause::Refused(fault) => Ok(Outcome::from(fault)),
         Cause::Memory => Err(anyhow!("no memory")),
     }
 }
 
 // What the libraries answer with labels of a kind.
-fn answer_as<L: Spelled>(heap: Global, question: &Question) -> anyhow::Result<Outcome>
-    ensures { IfOk result (λ o. Found L.Label question.now.kind question.now.text.items question.now.task o) }
+fn answer_as<L: Spelled>(heap: Global, question: &Question) -> Result<Outcome, Cause>
+    ensures { Told L.Label question.now.kind question.now.text.items (λ o size moves. Met question.now.task o size moves) result }
 {
     let text = question.text.as_slice();
     match &question.task {
-        Task::Size => match states::<L>(heap, question.kind, text) {
-            Ok(size) => Ok(Outcome::Read(size)),
-            Err(cause) => refusal(cause),
-        },
+        Task::Size => Ok(Outcome::Read(states::<L>(heap, question.kind, text)?)),
         Task::Replay { state, atoms } => {
-            match replay::<L>(heap, question.kind, text, *state, atoms.as_slice()) {
-                Ok(played) => Ok(Outcome::ended(played.ending)),
-                Err(cause) => refusal(cause),
-            }
+            let played = replay::<L>(heap, question.kind, text, *state, atoms.as_slice())?;
+            Ok(Outcome::from(played.ending))
         }
-    }
-}
-
-// What the machine over a node list answers.
-fn task_on<L: Label>(nodes: &[Node], task: &Task) -> Outcome {
-    let machine = ScriptMachine::<Script, L>::of(nodes);
-    match task {
-        Task::Size => Outcome::Read(machine.size()),
-        Task::Replay { state, atoms } => { Outcome::ended(run(&machine, *state, atoms.as_slice())) }
-    }
-}
-
-// What reading answers: the size of the script's machine, or a refusal.
-pub(crate) fn read_into(kind: Kind, text: &[u8], nodes: &mut [Node]) -> Outcome
-    ensures { (f : Failing) → read_as kind text.now nodes.old ≡ Err f → result ≡ Outcome.Refused (number_of f) (layer_of f) (place_of f) }
-{
-    match read(kind, text, nodes) {
-        Err(fault) => Outcome::refused(fault),
-        Ok(()) => match kind {
-            Kind::Bare => task_on::<Bare>(nodes, &Task::Size),
-            Kind::Measured => task_on::<Measured>(nodes, &Task::Size),
-        },
     }
 }

@@ -1,21 +1,21 @@
--- The known word from the three kinds of words.
-use Rattle.std.proofs.Common.{◌≡◌, ℕ, List, Some, None, Option, ap, ◌∙◌}
-use Rattle.atoms.specs.declared.Test.{Test as GalleyTest}
-use Rattle.labels.specs.declared.Verb.{Verb as OrderVerb}
-use Rattle.words.specs.declared.Word.{Word}
-use Rattle.words.specs.declared.Word.TheVariants.{Test, Verb}
-use Rattle.words.specs.Words.{test_of, verb_of, keyword_of, or_test, or_verb, word_of}
+-- Six and seven letters, each known, make up the whole word.
+use Rattle.std.proofs.Common.{◌≡◌, ℕ, ◌<◌, ◌≤◌, List, [], ◌∷◌, length, slice_index_or, arith}
 
-pub word_from_test : (w : List ℕ) (t : GalleyTest) → Some t ≡ test_of w → Some (Test t) ≡ word_of w
-unfolding word_of
-word_from_test w t h = ap (λ (o : Option GalleyTest). or_test o (or_verb (verb_of w) (keyword_of w))) h
+pub six_letters : (w : List ℕ) (a b c d e f : ℕ) → 6 ≤ length w → length w < 7
+    → slice_index_or w 0 0 ≡ a → slice_index_or w 1 0 ≡ b → slice_index_or w 2 0 ≡ c → slice_index_or w 3 0 ≡ d → slice_index_or w 4 0 ≡ e → slice_index_or w 5 0 ≡ f
+    → w ≡ a ∷ b ∷ c ∷ d ∷ e ∷ f ∷ []
+six_letters [] a b c d e f m n p q r s t u = absurd (omega arith)
+six_letters (g ∷ []) a b c d e f m n p q r s t u = absurd (omega arith)
+six_letters (g ∷ h ∷ []) a b c d e f m n p q r s t u = absurd (omega arith)
+six_letters (g ∷ h ∷ i ∷ []) a b c d e f m n p q r s t u = absurd (omega arith)
+six_letters (g ∷ h ∷ i ∷ j ∷ []) a b c d e f m n p q r s t u = absurd (omega arith)
+six_letters (g ∷ h ∷ i ∷ j ∷ k ∷ []) a b c d e f m n p q r s t u = absurd (omega arith)
+six_letters (g ∷ h ∷ i ∷ j ∷ k ∷ l ∷ []) a b c d e f m n p q r s t u = cc
+six_letters (g ∷ h ∷ i ∷ j ∷ k ∷ l ∷ x ∷ w) a b c d e f m n p q r s t u = absurd (omega arith)
 
-pub word_from_verb : (w : List ℕ) (v : OrderVerb) → None ≡ test_of w → Some v ≡ verb_of w → Some (Verb v) ≡ word_of w
-unfolding word_of
-word_from_verb w v n h =
-    ap (λ (o : Option OrderVerb). or_verb o (keyword_of w)) h ∙ ap (λ (o : Option GalleyTest). or_test o (or_verb (verb_of w) (keyword_of w))) n
-
-pub word_from_key : (w : List ℕ) (k : Option Word) → None ≡ test_of w → None ≡ verb_of w → k ≡ keyword_of w → k ≡ word_of w
-unfolding word_of
-word_from_key w k n m h =
-    h ∙ ap (λ (o : Option OrderVerb). or_verb o (keyword_of w)) m ∙ ap (λ (o : Option GalleyTest). or_test o (or_verb (verb_of w) (keyword_of w))) n
+pub seven_letters : (w : List ℕ) (a b c d e f g : ℕ) → 7 ≤ length w → length w < 8
+    → slice_index_or w 0 0 ≡ a → slice_index_or w 1 0 ≡ b → slice_index_or w 2 0 ≡ c → slice_index_or w 3 0 ≡ d → slice_index_or w 4 0 ≡ e → slice_index_or w 5 0 ≡ f → slice_index_or w 6 0 ≡ g
+    → w ≡ a ∷ b ∷ c ∷ d ∷ e ∷ f ∷ g ∷ []
+seven_letters [] a b c d e f g m n p q r s t u v = absurd (omega arith)
+seven_letters (h ∷ w) a b c d e f g m n p q r s t u v =
+    let k = six_letters w b c d e f g (omega arith) (omega arith) q r s t u v in cc

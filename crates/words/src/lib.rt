@@ -1,14 +1,14 @@
 // The known words of scripts.
 #![tactic(auto)]
 
-ghost use Rattle.std.specs.Prelude.{◌≡◌, Decides};
+ghost use Rattle.std.specs.Prelude.{◌≡◌};
 ghost use Rattle.words.specs.Words.{test_of, verb_of, keyword_of, word_of};
 
 use atoms::Test;
 use labels::Verb;
 
 // A known word.
-#[derive(Clone, Copy, Debug)]
+#[derive(Clone, Copy, Debug, PartialEq, Eq)]
 pub enum Word {
     Test(Test),
     Verb(Verb),
@@ -21,31 +21,18 @@ pub enum Word {
     P,
 }
 
-// Whether the letters are these.
-fn spells(letters: &[u8], these: &[u8]) -> bool
-    ensures { Decides result (letters.now ≡ these.now) }
-{
-    letters == these
-}
-
 // The test that the letters name, if there is one.
 fn test_word(letters: &[u8]) -> Option<Test>
     ensures { result ≡ test_of letters.now }
 {
-    if spells(letters, b"widow") {
-        Some(Test::Widow)
-    } else if spells(letters, b"orphan") {
-        Some(Test::Orphan)
-    } else if spells(letters, b"head") {
-        Some(Test::Head)
-    } else if spells(letters, b"figure") {
-        Some(Test::Figure)
-    } else if spells(letters, b"note") {
-        Some(Test::Note)
-    } else if spells(letters, b"last") {
-        Some(Test::Last)
-    } else {
-        None
+    match letters {
+        b"widow" => Some(Test::Widow),
+        b"orphan" => Some(Test::Orphan),
+        b"head" => Some(Test::Head),
+        b"figure" => Some(Test::Figure),
+        b"note" => Some(Test::Note),
+        b"last" => Some(Test::Last),
+        _ => None,
     }
 }
 
@@ -53,32 +40,20 @@ fn test_word(letters: &[u8]) -> Option<Test>
 fn verb_word(letters: &[u8]) -> Option<Verb>
     ensures { result ≡ verb_of letters.now }
 {
-    if spells(letters, b"line") {
-        Some(Verb::Line)
-    } else if spells(letters, b"page") {
-        Some(Verb::Page)
-    } else if spells(letters, b"column") {
-        Some(Verb::Column)
-    } else if spells(letters, b"float") {
-        Some(Verb::Float)
-    } else if spells(letters, b"foot") {
-        Some(Verb::Foot)
-    } else if spells(letters, b"feather") {
-        Some(Verb::Feather)
-    } else if spells(letters, b"tight") {
-        Some(Verb::Tight)
-    } else if spells(letters, b"loose") {
-        Some(Verb::Loose)
-    } else if spells(letters, b"hyphen") {
-        Some(Verb::Hyphen)
-    } else if spells(letters, b"rule") {
-        Some(Verb::Rule)
-    } else if spells(letters, b"blank") {
-        Some(Verb::Blank)
-    } else if spells(letters, b"run") {
-        Some(Verb::Run)
-    } else {
-        None
+    match letters {
+        b"line" => Some(Verb::Line),
+        b"page" => Some(Verb::Page),
+        b"column" => Some(Verb::Column),
+        b"float" => Some(Verb::Float),
+        b"foot" => Some(Verb::Foot),
+        b"feather" => Some(Verb::Feather),
+        b"tight" => Some(Verb::Tight),
+        b"loose" => Some(Verb::Loose),
+        b"hyphen" => Some(Verb::Hyphen),
+        b"rule" => Some(Verb::Rule),
+        b"blank" => Some(Verb::Blank),
+        b"run" => Some(Verb::Run),
+        _ => None,
     }
 }
 
@@ -86,34 +61,25 @@ fn verb_word(letters: &[u8]) -> Option<Verb>
 fn keyword(letters: &[u8]) -> Option<Word>
     ensures { result ≡ keyword_of letters.now }
 {
-    if spells(letters, b"if") {
-        Some(Word::If)
-    } else if spells(letters, b"else") {
-        Some(Word::Else)
-    } else if spells(letters, b"while") {
-        Some(Word::While)
-    } else if spells(letters, b"skip") {
-        Some(Word::Skip)
-    } else if spells(letters, b"stop") {
-        Some(Word::Stop)
-    } else if spells(letters, b"by") {
-        Some(Word::By)
-    } else if spells(letters, b"p") {
-        Some(Word::P)
-    } else {
-        None
+    match letters {
+        b"if" => Some(Word::If),
+        b"else" => Some(Word::Else),
+        b"while" => Some(Word::While),
+        b"skip" => Some(Word::Skip),
+        b"stop" => Some(Word::Stop),
+        b"by" => Some(Word::By),
+        b"p" => Some(Word::P),
+        _ => None,
     }
 }
 
 // The known word that the letters spell, if there is one.
+#[tactic(auto, unfolding(crate::specs::Words::word_of))]
 pub fn known(letters: &[u8]) -> Option<Word>
     ensures { result ≡ word_of letters.now }
 {
-    if let Some(test) = test_word(letters) {
-        return Some(Word::Test(test));
-    }
-    if let Some(verb) = verb_word(letters) {
-        return Some(Word::Verb(verb));
-    }
-    keyword(letters)
+    test_word(letters)
+        .map(Word::Test)
+        .or_else(|| verb_word(letters).map(Word::Verb))
+        .or_else(|| keyword(letters))
 }

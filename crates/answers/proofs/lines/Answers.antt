@@ -1,4 +1,4 @@
-use Rattle.std.proofs.Common.{◌+◌, [], ◌∷◌, ◌++◌, get_or, drop, vec_items, ap, ◌∙◌}
+use Rattle.std.proofs.Common.{ℕ, ◌+◌, [], ◌∷◌, ◌++◌, get_or, drop, vec_items, sym, ap, ◌∙◌}
 use Rattle.answers.specs.Lines.{onward, lines_of}
 use Rattle.answers.proofs.Lining.{one_more, one_last, none_left}
 use Rattle.answers.proofs.lines.Goals as goal
@@ -16,6 +16,7 @@ loop-atom-preserved g c =
     c.loop-atom-test.true c.step-made.ensures c.loop-atom.invariant
     (c.in_ok-push.ensures.items ∙ ap (λ m. vec_items c.loop-atom.lines ++ record { atom = get_or c.args.atoms.now c.loop-atom.atom-index 0; made = m } ∷ []) c.told.ensures)
     ∙ ap (λ m. vec_items c.push.new.self ++ onward (λ t. lines_of g.M.Label.Spelled.said (g.M.Machine.moves c.args.machine.now) t (drop (c.loop-atom.atom-index + 1) c.args.atoms.now)) m) c.in-Step.is
+    ∙ ap (λ (t : ℕ). vec_items c.push.new.self ++ lines_of g.M.Label.Spelled.said (g.M.Machine.moves c.args.machine.now) t (drop (c.loop-atom.atom-index + 1) c.args.atoms.now)) (sym c.from-at.ensures)
 
 pub returns : goal.returns
 returns g c =

@@ -1,17 +1,17 @@
-use Rattle.std.proofs.Common.{sym, ◌∙◌, arith, rules}
-use Rattle.std.proofs.lemmas.List.Sums.{prefix_len-drop_yes, prefix_len-drop_no, prefix_len-drop_all}
-use Rattle.tokens.specs.Classes.{has_of}
+use Rattle.std.proofs.Common.{◌+◌, ◌-◌, rules, ap, ◌∙◌, drop, length, arith, length-drop}
+use Rattle.std.proofs.lemmas.Iterator.{YieldsList-from_slice}
+use Rattle.std.proofs.lemmas.Iterator.Search.{YieldsList-from_take_while}
+use Rattle.std.proofs.lemmas.Iterator.Consumers.{count_from_yields_List}
+use Rattle.std.proofs.lemmas.List.{take_all}
+use Rattle.std.proofs.lemmas.List.Folds.{length-prefix_len}
 use Rattle.tokens.proofs.run_end.Goals as goal
 
-pub loop-at-preserved : goal.loop-at-preserved
-loop-at-preserved c = search (rules, prefix_len-drop_yes)
-
-pub returns-else-has : goal.returns-else-has
-returns-else-has c =
-    let n = prefix_len-drop_no (has_of c.args.class) c.args.text.now c.loop-at.at 0 (search rules) (sym c.has.ensures ∙ c.if-has.false) in
-    record { is = omega arith; within = omega arith; after = omega arith }
-
-pub returns-after-loop-at : goal.returns-after-loop-at
-returns-after-loop-at c =
-    let n = prefix_len-drop_all (has_of c.args.class) c.args.text.now c.loop-at.at (search rules) in
-    record { is = omega arith; within = omega arith; after = omega arith }
+pub returns-clause-is : goal.returns-clause-is
+returns-clause-is g c =
+    let told = c.requires.1.1.1 in
+    let text = c.args.text.now in
+    let rest = drop c.args.from text in
+    let whole = take_all (length text - c.args.from) rest (omega (arith, length-drop c.args.from text)) in
+    ap (λ n. c.args.from + n)
+    (count_from_yields_List c.take_while.result c.count.result c.count.ensures.ran (YieldsList-from_take_while _ g.test (YieldsList-from_slice rest (ap (λ i. i.rest.now) c.take_while.ensures.source ∙ c.iter.ensures.rest ∙ whole)) c.take_while.ensures.closure c.take_while.ensures.done (λ x b q k. search (rules, told)))
+    ∙ length-prefix_len g.test rest)

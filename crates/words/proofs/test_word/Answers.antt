@@ -1,6 +1,14 @@
-use Rattle.std.proofs.Common.{rules}
-use Rattle.std.proofs.lemmas.Slice.Eq.{bytes_eq-Decides}
+use Rattle.std.proofs.Common.{◌≡◌, codes, rules, ap}
+use Rattle.words.specs.Words.{test_of}
+use Rattle.words.proofs.Words.{six_letters}
 use Rattle.words.proofs.test_word.Goals as goal
 
-pub returns-else-spells-6 : goal.returns-else-spells-6
-returns-else-spells-6 c = search (rules, bytes_eq-Decides)
+pub returns-in-orphan : goal.returns-in-orphan
+returns-in-orphan c =
+    let e : codes "orphan" ≡ c.args.letters.now = search (rules, six_letters) in
+    ap test_of e
+
+pub returns-in-figure : goal.returns-in-figure
+returns-in-figure c =
+    let e : codes "figure" ≡ c.args.letters.now = search (rules, six_letters) in
+    ap test_of e

@@ -1,8 +1,8 @@
-use Rattle.std.proofs.Common.{◌+◌, drop, vec_items, sym, ap, ◌∙◌}
+use Rattle.std.proofs.Common.{◌+◌, drop, vec_items, Some, sym, ap, ◌∙◌}
 use Rattle.trials.specs.declared.escape.Escape.TheVariants.{Nothing}
 use Rattle.trials.specs.declared.escape.Step.TheVariants.{On, Byte}
 use Rattle.trials.specs.Escapes.{read_on, end_of}
-use Rattle.trials.proofs.Steps.{read_more, read_all, read_byte}
+use Rattle.trials.proofs.Steps.{read_more, read_all, read_byte, stepped}
 use Rattle.trials.proofs.escape.unescape.Goals as goal
 use Rattle.trials.proofs.escape.unescape.Goals.{in-On, in-Byte+in_ok-push-in-Byte}
 
@@ -12,16 +12,16 @@ loop-b-preserved c =
     elim c.match-step.branch [
       | in-On w ↦
           c.loop-b.invariant
-          ∙ read_more (vec_items c.loop-b.bytes) c.loop-b.escape c.args.text.now c.loop-b.b-index (On w.in-On.next) c.loop-b-test.true w.in-On.ensures
-          ∙ ap (λ v. read_on (vec_items v) (On w.in-On.next) rest) (sym w.bytes-is)
-          ∙ ap (λ e. read_on (vec_items c.match-step.bytes) (On e) rest) (sym w.escape-is)
+          ∙ read_more (vec_items c.loop-b.bytes) c.loop-b.escape c.args.text.now c.loop-b.b-index (Some (On w.in-On.next)) c.loop-b-test.true (stepped _ _ c.step.result c.in_ok-step.step _ c.step.ensures c.in_ok-step.ensures.cases w.in-On.is)
+          ∙ ap (λ v. read_on (vec_items v) (Some (On w.in-On.next)) rest) (sym w.bytes-is)
+          ∙ ap (λ e. read_on (vec_items c.match-step.bytes) (Some (On e)) rest) (sym w.escape-is)
       | in-Byte+in_ok-push-in-Byte w ↦
           c.loop-b.invariant
-          ∙ read_more (vec_items c.loop-b.bytes) c.loop-b.escape c.args.text.now c.loop-b.b-index (Byte w.in-Byte.byte) c.loop-b-test.true w.in-Byte.ensures
+          ∙ read_more (vec_items c.loop-b.bytes) c.loop-b.escape c.args.text.now c.loop-b.b-index (Some (Byte w.in-Byte.byte)) c.loop-b-test.true (stepped _ _ c.step.result c.in_ok-step.step _ c.step.ensures c.in_ok-step.ensures.cases w.in-Byte.is)
           ∙ read_byte (vec_items c.loop-b.bytes) w.in-Byte.byte rest
-          ∙ ap (λ bytes. read_on bytes (On Nothing) rest) (sym w.in_ok-push-in-Byte.ensures.items)
-          ∙ ap (λ v. read_on (vec_items v) (On Nothing) rest) (sym w.bytes-is)
-          ∙ ap (λ e. read_on (vec_items c.match-step.bytes) (On e) rest) (sym w.escape-is)
+          ∙ ap (λ bytes. read_on bytes (Some (On Nothing)) rest) (sym w.in_ok-push-in-Byte.ensures.items)
+          ∙ ap (λ v. read_on (vec_items v) (Some (On Nothing)) rest) (sym w.bytes-is)
+          ∙ ap (λ e. read_on (vec_items c.match-step.bytes) (Some (On e)) rest) (sym w.escape-is)
     ]
 
 pub returns-in-Nothing : goal.returns-in-Nothing

@@ -1,6 +1,6 @@
-use Rattle.std.proofs.Common.{map, take, vec_items}
+use Rattle.std.proofs.Common.{map, vec_items}
 use Rattle.trials.specs.Fields.{AllWritten}
 use Rattle.trials.proofs.question.numbers_of.Given as goal
 
 abbrev pub invariant-loop-item : goal.invariant-loop-item
-invariant-loop-item l = AllWritten (vec_items l.numbers) (map (λ x. x.now) (take l.item-index l.item-items))
+invariant-loop-item l = AllWritten (vec_items l.numbers) (map (λ x. x.now) l.yielded)
