@@ -73,6 +73,7 @@ pub trait Machine {
     fn size(&self) -> usize
         ensures { result ≡ states self.now };
 
+    // state and atom change at each step of a run, each by itself, and are no struct
     fn step(&self, state: usize, atom: u8) -> Move<Self::Label>
         ensures { result ≡ moves self.now state atom };
 

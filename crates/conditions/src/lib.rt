@@ -13,7 +13,7 @@ use automata::Fault;
 use tokens::{Mark, Reader, Token};
 use words::Word;
 
-// What an operand of a condition begins with.
+// What an operand of a condition begins with. An enum and no closure: the grammar is stated first token first.
 #[derive(Clone, Copy)]
 enum Operand {
     Set(AtomSet),

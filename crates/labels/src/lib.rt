@@ -217,11 +217,9 @@ impl Label for Bare {
     }
 
     fn from_bytes(bytes: [u8; 3]) -> Option<Bare> {
-        if bytes[1] == 0 && bytes[2] == 0 {
-            let verb = Verb::try_from(bytes[0]).ok()?;
-            Some(Bare { verb })
-        } else {
-            None
+        match bytes {
+            [byte, 0, 0] => Verb::try_from(byte).ok().map(|verb| Bare { verb }),
+            _ => None,
         }
     }
 

@@ -7,7 +7,8 @@ use Rattle.script.specs.Trees.{Tree}
 use Rattle.reading.specs.Readings.{most_bytes, reading_of}
 use Rattle.marker.specs.Files.{table_head}
 use Rattle.marker.specs.declared.failure.Cause.{Cause}
-use Rattle.marker.specs.declared.failure.Cause.TheVariants.{Unreadable, Table, Refused, Memory}
+use Rattle.marker.specs.declared.failure.Cause.TheVariants.{Unreadable, Table, Unanswered}
+use Rattle.answers.specs.declared.Cause.TheVariants.{Refused, Memory}
 
 -- the fault of an outcome, if it is one
 abbrev pub fault_of : Result Tree Fault → Option Fault
@@ -23,8 +24,8 @@ abbrev pub Answered : {S : Type 0} → Kind → List ℕ → Result S Cause → 
 Answered k text (Ok s) = refusal_of k text ≡ None
 Answered k text (Err Unreadable) = ⊥
 Answered k text (Err Table) = ⊥
-Answered k text (Err (Refused f)) = refusal_of k text ≡ Some f
-Answered k text (Err Memory) = Unit {0}
+Answered k text (Err (Unanswered (Refused f))) = refusal_of k text ≡ Some f
+Answered k text (Err (Unanswered Memory)) = Unit {0}
 
 -- a table has no answer yet; any other file is a text of the kind
 abbrev pub FileAnswered : {S : Type 0} → Kind → List ℕ → Result S Cause → Type 0

@@ -12,7 +12,8 @@ use Rattle.answers.specs.Lines.{Plays}
 use Rattle.answers.specs.Told.{text_as, Holding}
 use Rattle.marker.specs.Files.{table_head}
 use Rattle.marker.specs.declared.failure.Cause.{Cause}
-use Rattle.marker.specs.declared.failure.Cause.TheVariants.{Unreadable, Table, Refused, Memory}
+use Rattle.marker.specs.declared.failure.Cause.TheVariants.{Unreadable, Table, Unanswered}
+use Rattle.answers.specs.declared.Cause.TheVariants.{Refused, Memory}
 use Rattle.marker.specs.declared.reply.Reply.{Reply}
 use Rattle.marker.specs.declared.reply.Reply.TheVariants.{Size, Run}
 
@@ -29,8 +30,8 @@ module _ {L : Type 0} (l : LabelGhosts L) (said : L → Order) where
   Replied k text c (Ok r) = RepliedTo k text c r
   Replied k text c (Err Unreadable) = ⊥
   Replied k text c (Err Table) = ⊥
-  Replied k text c (Err (Refused f)) = text_as k text ≡ Err f
-  Replied k text c (Err Memory) = Unit {0}
+  Replied k text c (Err (Unanswered (Refused f))) = text_as k text ≡ Err f
+  Replied k text c (Err (Unanswered Memory)) = Unit {0}
 
 -- the same with the labels of a kind
 abbrev pub RepliedAs : Kind → List ℕ → Command → Result Reply Cause → Type 0

@@ -2,9 +2,9 @@
 ghost use Rattle.std.specs.Prelude.{◌≡◌, None, Option as Optional};
 ghost use Rattle.marker.specs.declared.failure.Failure.TheVariants.{Memory};
 ghost use Rattle.marker.specs.Spots.{Spotted};
-ghost use Rattle.marker.specs.Wrongs.{failure_of, cause_of};
+ghost use Rattle.marker.specs.declared.failure.Cause.TheVariants.{Unanswered};
+ghost use Rattle.marker.specs.Wrongs.{failure_of};
 
-use answers::Cause as Unanswered;
 use automata::Fault;
 use requests::{Spot, Wrong};
 use std::alloc::AllocError;
@@ -15,18 +15,14 @@ use std::fmt;
 pub enum Cause {
     Unreadable,
     Table,
-    Refused(Fault),
-    Memory,
+    Unanswered(answers::Cause),
 }
 
-impl From<Unanswered> for Cause {
-    ghost from_gives = { λ u r. r ≡ cause_of u };
+impl From<answers::Cause> for Cause {
+    ghost from_gives = { λ c r. r ≡ Unanswered c };
 
-    fn from(unanswered: Unanswered) -> Cause {
-        match unanswered {
-            Unanswered::Refused(fault) => Cause::Refused(fault),
-            Unanswered::Memory => Cause::Memory,
-        }
+    fn from(cause: answers::Cause) -> Cause {
+        Cause::Unanswered(cause)
     }
 }
 
@@ -87,7 +83,9 @@ fn spot_of(cause: Cause, text: &[u8]) -> Option<Spot>
     ensures { Spotted cause text.now result }
 {
     match cause {
-        Cause::Refused(fault) => fault.place().map(|place| Spot::of(text, place)),
+        Cause::Unanswered(answers::Cause::Refused(fault)) => {
+            fault.place().map(|place| Spot::of(text, place))
+        }
         _ => None,
     }
 }
@@ -134,11 +132,11 @@ impl fmt::Display for Failure {
                 match *cause {
                     Cause::Unreadable => f.write_str("cannot be read"),
                     Cause::Table => f.write_str("tables are not read yet"),
-                    Cause::Refused(fault) => {
+                    Cause::Unanswered(answers::Cause::Refused(fault)) => {
                         let refusal = Refusal { fault, spot: *spot };
                         write!(f, "{refusal}")
                     }
-                    Cause::Memory => f.write_str("no memory"),
+                    Cause::Unanswered(answers::Cause::Memory) => f.write_str("no memory"),
                 }
             }
         }

@@ -26,7 +26,8 @@ fn is_table(file: &[u8]) -> bool
     file.starts_with(b"MUS")
 }
 
-// What the command answers on the text of a script.
+// What the command answers on the text of a script. The kind is a value for reading and a type for the machine; heap and text are as in
+// `answers`.
 fn answer<L: Spelled>(
     heap: Global,
     kind: Kind,

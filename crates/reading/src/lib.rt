@@ -20,7 +20,7 @@ mod parser;
 
 use parser::Parser;
 
-// What a step begins with.
+// What a step begins with. An enum and no closure: the grammar is stated first token first.
 #[derive(Clone, Copy)]
 enum First {
     Plain(Leaf),
@@ -69,12 +69,12 @@ fn first_token(reader: &mut Reader) -> Result<(usize, First), Fault>
     Ok((token.place(), first))
 }
 
-// A number with the sign of its measure. The cast keeps its value, and `try_from` would have an error that never comes.
+// A number with the sign of its measure.
 fn signed(value: u8, minus: bool) -> i8
     requires { value ≤ 127 }
     ensures { result ≡ signed_by minus value }
 {
-    let value = value as i8;
+    let value = value.cast_signed();
     if minus { -value } else { value }
 }
 

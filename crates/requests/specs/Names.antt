@@ -6,6 +6,7 @@ use Rattle.atoms.specs.Atoms.{name_of}
 use Rattle.words.specs.Words.{word_of}
 use Rattle.requests.specs.Words.{test_in}
 
+-- reading the word of a test gives the test
 pub name_read : (t : Test) → test_in (name_of t) ≡ Some t
 unfolding word_of
 name_read Widow = refl

@@ -5,7 +5,7 @@ ghost use Rattle.requests.specs.Places.{breaks, since};
 use std::fmt;
 
 // How many lines end before a place, and how many bytes of its own line stand before it.
-#[derive(Clone, Copy)]
+#[derive(Clone, Copy, Default)]
 pub struct Spot {
     lines: usize,
     bytes: usize,
@@ -18,7 +18,7 @@ impl Spot {
         ensures bytes { result.bytes ≡ since 0 (take place text.now) }
     {
         let before = &text[..place.min(text.len())];
-        let mut spot = Spot { lines: 0, bytes: 0 };
+        let mut spot = Spot::default();
         for b in before {
             spot = spot.past(*b);
         }

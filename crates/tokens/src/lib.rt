@@ -87,7 +87,7 @@ impl Token<'_> {
 }
 
 impl Mark {
-    // The mark that a byte writes, if there is one. Not `TryFrom`, since only the caller knows the place that the error has.
+    // The mark that a byte writes, if there is one. `TryFrom` would be no plainer: its error would be dropped for the fault with its place.
     fn from_byte(b: u8) -> Option<Mark>
         ensures { result ≡ mark_of b }
     {
@@ -139,10 +139,10 @@ fn number(place: usize, digits: &[u8]) -> Result<u8, Fault>
     for d in digits {
         value = value * 10 + u16::from(*d - b'0');
     }
-    match u8::try_from(value) {
-        Ok(value) if value <= LARGEST => Ok(value),
-        _ => Err(Fault::LargeNumber(place)),
-    }
+    u8::try_from(value)
+        .ok()
+        .filter(|value| *value <= LARGEST)
+        .ok_or(Fault::LargeNumber(place))
 }
 
 // The token at a place where no blank stands, and the position after it.

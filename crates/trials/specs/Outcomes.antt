@@ -5,15 +5,12 @@ use Rattle.automata.specs.Faults.{number_of, layer_of, place_of}
 use Rattle.automata.specs.declared.Ending.{Ending}
 use Rattle.automata.specs.declared.Ending.TheVariants as ending
 use Rattle.trials.specs.declared.outcome.Outcome.{Outcome}
-use Rattle.trials.specs.declared.outcome.Outcome.TheVariants.{Read, Refused, Accepted, Rejected, Early, Out}
+use Rattle.trials.specs.declared.outcome.Outcome.TheVariants.{Read, Refused, Ended}
 use Rattle.trials.specs.Fields.{Writes}
 
 -- the outcome of a run that ended so
 abbrev pub outcome_of : Ending → Outcome
-outcome_of ending.Accepted = Accepted
-outcome_of (ending.Rejected p) = Rejected p
-outcome_of (ending.Early p) = Early p
-outcome_of (ending.Out p) = Out p
+outcome_of e = Ended e
 
 -- the outcome of a refusal
 abbrev pub refused_by : Fault → Outcome
@@ -28,7 +25,7 @@ abbrev pub Stored : List (List ℕ) → Outcome → Type 0
 Stored fields (Read n) = (a : List ℕ) × (b : List ℕ) × (fields ≡ codes "ok" ∷ a ∷ b ∷ []) × Writes n a
 Stored fields (Refused n layer place) =
     (a : List ℕ) × (b : List ℕ) × (c : List ℕ) × (l : ℕ) × (p : ℕ) × (fields ≡ codes "refused" ∷ a ∷ b ∷ c ∷ []) × Writes n a × (layer ≡ Some l) × Writes l b × (place ≡ Some p) × Writes p c
-Stored fields Accepted = fields ≡ codes "accepted" ∷ []
-Stored fields (Rejected p) = At (codes "rejected") p fields
-Stored fields (Early p) = At (codes "early") p fields
-Stored fields (Out p) = At (codes "out") p fields
+Stored fields (Ended ending.Accepted) = fields ≡ codes "accepted" ∷ []
+Stored fields (Ended (ending.Rejected p)) = At (codes "rejected") p fields
+Stored fields (Ended (ending.Early p)) = At (codes "early") p fields
+Stored fields (Ended (ending.Out p)) = At (codes "out") p fields

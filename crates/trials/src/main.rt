@@ -21,7 +21,7 @@ use reading::{NODE_RECORDS, read};
 use script::Node;
 
 // How many lines a file has, and how many of them differ.
-#[derive(Clone, Copy)]
+#[derive(Clone, Copy, Default)]
 struct Tally {
     lines: u64,
     differ: u64,
@@ -53,10 +53,7 @@ fn both(heap: Global, fields: &[&str]) -> anyhow::Result<(Outcome, Outcome)>
 // Compares each line of a file, and prints those that differ.
 fn compare(rt: &HostRuntime, file: &str) -> anyhow::Result<Tally> {
     let text = fs::read_to_string(rt, file)?;
-    let mut tally = Tally {
-        lines: 0,
-        differ: 0,
-    };
+    let mut tally = Tally::default();
     for line in text.as_str().lines() {
         let fields = line.split('\t').collect::<Vec<&str>>(rt.alloc())?;
         let (stored, found) = both(rt.alloc(), fields.as_slice())?;

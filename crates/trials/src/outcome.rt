@@ -16,10 +16,7 @@ pub enum Outcome {
         layer: Option<u8>,
         place: Option<usize>,
     },
-    Accepted,
-    Rejected(usize),
-    Early(usize),
-    Out(usize),
+    Ended(Ending),
 }
 
 // The outcome of a refusal.
@@ -40,12 +37,7 @@ impl From<Ending> for Outcome {
     ghost from_gives = { λ e r. r ≡ outcome_of e };
 
     fn from(ending: Ending) -> Outcome {
-        match ending {
-            Ending::Accepted => Outcome::Accepted,
-            Ending::Rejected(place) => Outcome::Rejected(place),
-            Ending::Early(place) => Outcome::Early(place),
-            Ending::Out(place) => Outcome::Out(place),
-        }
+        Outcome::Ended(ending)
     }
 }
 
@@ -63,10 +55,10 @@ impl<'a, 'b> TryFrom<&'a [&'b str]> for Outcome {
                 layer: Some(layer.parse()?),
                 place: Some(place.parse()?),
             }),
-            ["accepted"] => Ok(Outcome::Accepted),
-            ["rejected", place] => Ok(Outcome::Rejected(place.parse()?)),
-            ["early", place] => Ok(Outcome::Early(place.parse()?)),
-            ["out", place] => Ok(Outcome::Out(place.parse()?)),
+            ["accepted"] => Ok(Outcome::Ended(Ending::Accepted)),
+            ["rejected", place] => Ok(Outcome::Ended(Ending::Rejected(place.parse()?))),
+            ["early", place] => Ok(Outcome::Ended(Ending::Early(place.parse()?))),
+            ["out", place] => Ok(Outcome::Ended(Ending::Out(place.parse()?))),
             _ => Err(anyhow!("an outcome that is not known")),
         }
     }
@@ -90,10 +82,10 @@ impl fmt::Display for Outcome {
                 }
                 Ok(())
             }
-            Outcome::Accepted => f.write_str("accepted"),
-            Outcome::Rejected(place) => write!(f, "rejected {place}"),
-            Outcome::Early(place) => write!(f, "early {place}"),
-            Outcome::Out(place) => write!(f, "out {place}"),
+            Outcome::Ended(Ending::Accepted) => f.write_str("accepted"),
+            Outcome::Ended(Ending::Rejected(place)) => write!(f, "rejected {place}"),
+            Outcome::Ended(Ending::Early(place)) => write!(f, "early {place}"),
+            Outcome::Ended(Ending::Out(place)) => write!(f, "out {place}"),
         }
     }
 }

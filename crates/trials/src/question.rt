@@ -28,7 +28,7 @@ pub struct Question {
     task: Task,
 }
 
-// The kind of label that a field numbers. The proof of `Question::of` closes over this clause, not over that of `parse`.
+// The kind of label that a field numbers. A function of its own: tried with `parse` in its place, the proof of `Question::of` does not close.
 fn kind_of(field: &str) -> anyhow::Result<Kind>
     ensures { IfOk result (λ k. Numbers k field.now) }
 {

@@ -73,7 +73,8 @@ fn keyword(letters: &[u8]) -> Option<Word>
     }
 }
 
-// The known word that the letters spell, if there is one.
+// The known word that the letters spell, if there is one. The three are matches of their own, and no search in a table that is handed
+// to one function: a match is the table, and each has another type. Letters are bytes, so they are no FromStr; `name` is the way back.
 #[tactic(auto, unfolding(crate::specs::Words::word_of))]
 pub fn known(letters: &[u8]) -> Option<Word>
     ensures { result ≡ word_of letters.now }
