@@ -84,7 +84,7 @@ fn told<L: Spelled>(made: Move<L>) -> Move<Order>
     }
 }
 
-// The moves that a machine makes from a state on the atoms.
+// The moves that a machine makes from a state on the atoms. The walk stands in `run` too, which uses no heap and keeps no list.
 fn lines<M: Machine>(
     heap: Global,
     machine: &M,

@@ -1,5 +1,4 @@
 pub mod Files
 pub mod Answers
 pub mod Spots
-pub mod Wrongs
 pub mod Replies

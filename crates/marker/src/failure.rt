@@ -1,9 +1,9 @@
 // Why there is no answer, as the program says it.
 ghost use Rattle.std.specs.Prelude.{◌≡◌, None, Option as Optional};
-ghost use Rattle.marker.specs.declared.failure.Failure.TheVariants.{Memory};
+ghost use Rattle.marker.specs.declared.failure.Failure.TheVariants.{Words};
+ghost use Rattle.requests.specs.declared.Wrong.TheVariants.{Memory};
 ghost use Rattle.marker.specs.Spots.{Spotted};
 ghost use Rattle.marker.specs.declared.failure.Cause.TheVariants.{Unanswered};
-ghost use Rattle.marker.specs.Wrongs.{failure_of};
 
 use automata::Fault;
 use requests::{Spot, Wrong};
@@ -29,8 +29,7 @@ impl From<answers::Cause> for Cause {
 // Why the program has no answer: its words are no command, or a file gives none.
 #[derive(Drop)]
 pub enum Failure {
-    Usage,
-    Memory,
+    Words(Wrong),
     File {
         name: String,
         cause: Cause,
@@ -39,21 +38,18 @@ pub enum Failure {
 }
 
 impl From<Wrong> for Failure {
-    ghost from_gives = { λ w r. r ≡ failure_of w };
+    ghost from_gives = { λ w r. r ≡ Words w };
 
     fn from(wrong: Wrong) -> Failure {
-        match wrong {
-            Wrong::Usage => Failure::Usage,
-            Wrong::Memory => Failure::Memory,
-        }
+        Failure::Words(wrong)
     }
 }
 
 impl From<AllocError> for Failure {
-    ghost from_gives = { λ e r. r ≡ Memory };
+    ghost from_gives = { λ e r. r ≡ Words Memory };
 
     fn from(_error: AllocError) -> Failure {
-        Failure::Memory
+        Failure::Words(Wrong::Memory)
     }
 }
 
@@ -119,14 +115,14 @@ impl fmt::Display for Refusal {
 impl fmt::Display for Failure {
     fn fmt<W: fmt::Write>(&self, f: &mut fmt::Formatter<W>) -> fmt::Result {
         match self {
-            Failure::Usage => {
+            Failure::Words(Wrong::Usage) => {
                 f.write_str("usage: marker run [--kind 1|2] MACHINE ATOM...\n")?;
                 f.write_str("       marker check [--kind 1|2] FILE\n")?;
                 f.write_str(
                     "an ATOM is a number 0 to 255, tests joined by `+` (widow orphan head figure note last), or `none`",
                 )
             }
-            Failure::Memory => f.write_str("marker: no memory"),
+            Failure::Words(Wrong::Memory) => f.write_str("marker: no memory"),
             Failure::File { name, cause, spot } => {
                 write!(f, "marker: {name}: ")?;
                 match *cause {

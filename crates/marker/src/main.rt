@@ -17,7 +17,7 @@ mod reply;
 
 use failure::{Cause, Failure};
 use reply::Reply;
-use requests::{Command, Request, parse_request};
+use requests::{Command, Request, Wrong, parse_request};
 
 // Whether a file is a table: whether it begins with the letters MUS.
 fn is_table(file: &[u8]) -> bool
@@ -60,7 +60,7 @@ fn answer_file(heap: Global, request: &Request, file: &[u8]) -> Result<Reply, Ca
 // What the program answers, or why there is no answer.
 fn work(rt: &HostRuntime) -> Result<Reply, Failure> {
     let heap = rt.alloc();
-    let args = env::args(rt).map_err(|_| Failure::Usage)?;
+    let args = env::args(rt).map_err(|_| Wrong::Usage)?;
     let words = args.skip(1).collect::<Vec<String>>(heap)?;
     let request = parse_request(heap, &words)?;
     // no `?`, since the failure takes the name that is read

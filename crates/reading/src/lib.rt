@@ -28,7 +28,7 @@ enum First {
     While,
 }
 
-// What a step without a block begins with.
+// What a step without a block begins with; an enum as `First` is.
 #[derive(Clone, Copy)]
 enum Leaf {
     Verb(Verb),
@@ -69,7 +69,7 @@ fn first_token(reader: &mut Reader) -> Result<(usize, First), Fault>
     Ok((token.place(), first))
 }
 
-// A number with the sign of its measure.
+// A number with the sign of its measure. The minus is read before the numbers and stands for both, so it is handed on by itself.
 fn signed(value: u8, minus: bool) -> i8
     requires { value ≤ 127 }
     ensures { result ≡ signed_by minus value }

@@ -13,7 +13,7 @@ use tokens::{Mark, Reader};
 
 // A reader of a script of the kind, and the script so far: how many nodes of the list are used, and how many steps are
 // counted. There is room, since a script has at most two nodes for each step.
-// A lent list with the number that is used beside it, and no Vec: nothing in the library allocates.
+// A lent list with the number that is used beside it, and no Vec: reading and running use no heap.
 #[derive(Drop)]
 pub(crate) struct Parser<'t, 'n> {
     pub(crate) reader: Reader<'t>,

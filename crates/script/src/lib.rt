@@ -307,6 +307,7 @@ impl<'a> Script<'a> {
         if state == 0 {
             return tree.first(atom);
         }
+        // a narrowing cast, as in `survey`
         tree.after(state as u16, atom)
     }
 }

@@ -41,7 +41,8 @@ fn all_suit<L: Label>(nodes: &[Node]) -> bool
     nodes.iter().all(|node| suits::<L>(*node))
 }
 
-// The move with a label of the kind in place of the order; it rejects where there is none.
+// The move with a label of the kind in place of the order; it rejects where there is none. No `From`: a move is of another crate, and an
+// order may have no label.
 fn with_labels<L: Label>(said: Move<Order>) -> Move<L>
     ensures { result ≡ labelled (label_of L.Label) said }
 {

@@ -61,7 +61,7 @@ impl Token<'_> {
         }
     }
 
-    // Its place, if it is this mark.
+    // Its place, if it is this mark. It and `if_word` are two: a mark and a word are fields of unlike cases.
     fn if_mark(self, mark: Mark) -> Option<usize>
         ensures { result ≡ mark_place mark self.entry }
     {

@@ -1,8 +1,8 @@
 use Rattle.std.proofs.Common.{◌+◌, drop, vec_items, Some, sym, ap, ◌∙◌}
 use Rattle.trials.specs.declared.escape.Escape.TheVariants.{Nothing}
 use Rattle.trials.specs.declared.escape.Step.TheVariants.{On, Byte}
-use Rattle.trials.specs.Escapes.{read_on, end_of}
-use Rattle.trials.proofs.Steps.{read_more, read_all, read_byte, stepped}
+use Rattle.trials.specs.Escapes.{read_on}
+use Rattle.trials.proofs.Steps.{read_more, read_byte, stepped}
 use Rattle.trials.proofs.escape.unescape.Goals as goal
 use Rattle.trials.proofs.escape.unescape.Goals.{in-On, in-Byte+in_ok-push-in-Byte}
 
@@ -23,9 +23,3 @@ loop-b-preserved c =
           ∙ ap (λ v. read_on (vec_items v) (Some (On Nothing)) rest) (sym w.bytes-is)
           ∙ ap (λ e. read_on (vec_items c.match-step.bytes) (Some (On e)) rest) (sym w.escape-is)
     ]
-
-pub returns-in-Nothing : goal.returns-in-Nothing
-returns-in-Nothing c =
-    c.loop-b.invariant
-    ∙ read_all (vec_items c.loop-b.bytes) c.loop-b.escape c.args.text.now c.loop-b.b-index c.loop-b-test.false
-    ∙ ap (end_of (vec_items c.loop-b.bytes)) c.in-Nothing.is
