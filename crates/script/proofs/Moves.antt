@@ -61,9 +61,6 @@ stands ns x h = by (script_in ns) refl h
         }
 
 module _ (ns : List Node) (s a : ℕ) where
-  pub void_move : script_in ns ≡ None → Reject ≡ script_move (script_in ns) s a
-  void_move e = sym (ap (λ (o : Option Tree). script_move o s a) e)
-
   module _ {x : Extent} (st : Stands ns x) where
     move_is : script_move (script_in ns) s a ≡ machine_move (expr_of st.tree) s a
     move_is = ap (λ (o : Option Tree). script_move o s a) st.is
