@@ -1,7 +1,8 @@
 // The grammar of scripts: a text into a lent node list.
 #![tactic(auto)]
 
-ghost use Rattle.std.specs.Prelude.{◌≡◌, ◌≤◌, length, Ok, Err};
+ghost use Rattle.std.specs.Prelude.{◌≡◌, ◌≤◌, length, replicate, Ok, Err};
+ghost use Rattle.script.specs.declared.node.Node.TheVariants.{Blank};
 ghost use Rattle.tokens.specs.Streams.{left};
 ghost use Rattle.reading.specs.Firsts.{first_of};
 ghost use Rattle.reading.specs.Steps.{signed_by, amount_of, measure_of, plain_of};
@@ -148,6 +149,15 @@ fn whole(kind: Kind, text: &[u8], nodes: &mut [Node]) -> Result<usize, Fault>
     Ok(parser.used)
 }
 
+// Makes every node blank. A loop: the library's `fill` clones the value for each node, and a reading of a short text took 1.6 times as long.
+fn blank_out(nodes: &mut [Node])
+    ensures { nodes.new ≡ replicate (length nodes.old) Blank }
+{
+    for node in nodes.iter_mut() {
+        *node = Node::Blank;
+    }
+}
+
 // The fixed length of a node list.
 pub const NODE_RECORDS: usize = 1024;
 
@@ -167,6 +177,6 @@ pub fn read(kind: Kind, text: &[u8], nodes: &mut [Node]) -> Result<(), Fault>
         return Err(Fault::LongText);
     }
     let used = whole(kind, text, nodes);
-    nodes[used.unwrap_or(0)..].fill(Node::Blank);
+    blank_out(&mut nodes[used.unwrap_or(0)..]);
     used.map(|_| ())
 }

@@ -1,9 +1,9 @@
 -- The trees that nodes make, in numbers.
-use Rattle.std.specs.Prelude.{◌≡◌, ℕ, ◌+◌, List, [], ◌∷◌, length, Some, None, Option}
+use Rattle.std.specs.Prelude.{◌≡◌, ℕ, ◌+◌, List, [], ◌∷◌, length, take, Some, None, Option}
 use Rattle.script.specs.declared.node.Node.{Node}
 use Rattle.script.specs.declared.Tally.{Tally}
 use Rattle.script.specs.Trees.{Tree, steps, orders}
-use Rattle.script.specs.Lists.{grown}
+use Rattle.script.specs.Lists.{grown, made, used}
 
 -- the steps of several trees
 abbrev pub total_steps : List Tree → ℕ
@@ -25,6 +25,15 @@ pub record Tallied (st : List Tree) (height steps' orders' : ℕ) : Type 0 where
 abbrev pub Numbered : Option (List Tree) → Option Tally → Type 0
 Numbered o None = o ≡ None
 Numbered o (Some y) = (st : List Tree) × (o ≡ Some st) × Tallied st y.height y.steps y.orders
+
+-- what the used nodes of a list make
+abbrev pub made_used : List Node → List Tree → Option (List Tree)
+made_used ns st = made (take (used ns) ns) st
+
+-- the trees of the used nodes of a list, in numbers, and how many these nodes are
+abbrev pub NumberedUsed : List Node → Option (Tally × ℕ) → Type 0
+NumberedUsed ns None = made_used ns [] ≡ None
+NumberedUsed ns (Some x) = Numbered (made_used ns []) (Some x.0) × (x.1 ≡ used ns)
 
 -- what a node does to the trees before it, in numbers
 abbrev pub Grows : Node → List Tree → Option Tally → Type 0

@@ -6,10 +6,10 @@ ghost use Rattle.atoms.specs.Sets.{member, every};
 ghost use Rattle.automata.specs.declared.Move.TheVariants.{Accept, Reject};
 ghost use Rattle.automata.specs.Walks.{first_move, after_move, then_move, turn_move};
 ghost use Rattle.script.specs.Trees.{Tree, expr_of};
-ghost use Rattle.script.specs.Lists.{blank_node, all_blank, used, made, script_in, Ends, SomeTree};
+ghost use Rattle.script.specs.Lists.{blank_node, all_blank, script_in, Ends, SomeTree};
 ghost use Rattle.script.specs.Extents.{extent_of};
 ghost use Rattle.script.specs.Machines.{script_move, size_on};
-ghost use Rattle.script.specs.Tallies.{Tallied, Numbered, Grows};
+ghost use Rattle.script.specs.Tallies.{Tallied, NumberedUsed, Grows};
 
 use atoms::{ATOMS, AtomSet};
 use automata::Move;
@@ -40,16 +40,6 @@ fn blank(nodes: &[Node]) -> bool
     ensures { result ≡ all_blank nodes.now }
 {
     nodes.iter().all(|node| is_blank(*node))
-}
-
-// How many nodes stand before the first blank one.
-fn used_of(nodes: &[Node]) -> usize
-    ensures { result ≡ used nodes.now }
-{
-    nodes
-        .iter()
-        .position(|node| is_blank(*node))
-        .unwrap_or(nodes.len())
 }
 
 // The trees that a list of nodes has made so far, in numbers.
@@ -98,15 +88,19 @@ impl Tally {
     }
 }
 
-// The trees that nodes make, in numbers; none if one of the nodes lacks trees to join.
-fn tallied(nodes: &[Node]) -> Option<Tally>
-    ensures { Numbered (made nodes.now []) result }
+// The trees that the nodes before the first blank one make, in numbers, and how many nodes these are; none if one of them lacks trees
+// to join: no node behind it is looked at then.
+fn tallied(nodes: &[Node]) -> Option<(Tally, usize)>
+    ensures { NumberedUsed nodes.now result }
 {
     let mut tally = Tally::default();
-    for node in nodes {
+    for (used, node) in nodes.iter().enumerate() {
+        if is_blank(*node) {
+            return Some((tally, used));
+        }
         tally = tally.with(*node)?;
     }
-    Some(tally)
+    Some((tally, nodes.len()))
 }
 
 // How many nodes a script takes, and how many of them are orders. Numbers and no slice: the script keeps its whole list, of which the
@@ -121,10 +115,8 @@ pub(crate) struct Extent {
 fn survey(nodes: &[Node]) -> Option<Extent>
     ensures { result ≡ extent_of nodes.now }
 {
-    let used = used_of(nodes);
-    let (script, rest) = nodes.split_at(used);
-    let tally = tallied(script)?;
-    if tally.height != 1 || tally.steps > MOST_STEPS || !blank(rest) {
+    let (tally, used) = tallied(nodes)?;
+    if tally.height != 1 || tally.steps > MOST_STEPS || !blank(&nodes[used..]) {
         return None;
     }
     // A narrowing cast: that it fits is proved, and `try_from` would ask for an answer that never comes. So in `step`.

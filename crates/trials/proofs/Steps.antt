@@ -1,5 +1,5 @@
 -- What reading escaped text does at one byte.
-use Rattle.std.proofs.Common.{◌≡◌, ℕ, ◌+◌, ◌<◌, List, [], ◌∷◌, ◌++◌, length, get_or, drop, Some, None, Ok, Option, Result, MatchOption, sym, refl, ap, ◌∙◌}
+use Rattle.std.proofs.Common.{◌≡◌, ℕ, ◌+◌, ◌<◌, List, [], ◌∷◌, ◌++◌, length, get_or, drop, Some, Option, sym, refl, ap, ◌∙◌}
 use Rattle.std.proofs.lemmas.List.{at_drop_more}
 use Rattle.trials.specs.declared.escape.Escape.{Escape}
 use Rattle.trials.specs.declared.escape.Escape.TheVariants.{Nothing}
@@ -14,8 +14,3 @@ read_more bytes e xs i s lt is = at_drop_more (read_on bytes (Some (On e))) xs i
 pub read_byte : (bytes : List ℕ) (x : ℕ) (rest : List ℕ) → read_on bytes (Some (Byte x)) rest ≡ read_on (bytes ++ x ∷ []) (Some (On Nothing)) rest
 read_byte bytes x [] = refl
 read_byte bytes x (b ∷ rest) = refl
-
--- the step that a byte made, where it made one
-pub stepped : (E : Type 0) (made o : Option Step) (s t : Step) → o ≡ made → MatchOption o ⊥ (λ y. ◌≡◌ {A = Result Step E} (Ok s) (Ok y)) → s ≡ t → Some t ≡ made
-stepped E made None s t is some same = absurd some
-stepped E made (Some y) s t is some same = let z : s ≡ y = cc in ap Some (sym same ∙ z) ∙ is

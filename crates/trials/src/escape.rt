@@ -62,9 +62,10 @@ pub(crate) fn unescape(heap: Global, text: &[u8]) -> anyhow::Result<Vec<u8>>
     let mut bytes = Vec::new(heap);
     let mut escape = Escape::Nothing;
     for b in text {
-        let step = escape
-            .step(*b)
-            .ok_or_else(|| anyhow!("an escape that is not known"))?;
+        // no `ok_or_else`: it would make a Result, which is as large as its error, for each byte
+        let Some(step) = escape.step(*b) else {
+            return Err(anyhow!("an escape that is not known"));
+        };
         match step {
             Step::On(next) => escape = next,
             Step::Byte(byte) => {
